@@ -1,0 +1,1 @@
+// Laws of whole numbers. The crate has no function: see specs/ and proofs/.

@@ -1,0 +1,28 @@
+-- Document 01, "Commands": operands of fixed width, low byte first, signed ones in two's complement.
+use Prim.Native.Nat.{ℕ, zero, suc, _+_, _*_, _/_, _%_}
+use mathlib.Core.List.{List, [], _∷_}
+use lib.IntN.{ℤ}
+use lib.ListN.{take, drop}
+use mir.Syntax.{w64}
+use mir.Val.{toZ, ofZ}
+
+-- the number of a list of bytes, low byte first
+unfoldable pub fromBytes : List ℕ → ℕ
+fromBytes [] = 0
+fromBytes (b ∷ bs) = fromBytes bs * 256 + b
+
+-- the k low bytes of n, low byte first
+unfoldable pub toBytes : ℕ → ℕ → List ℕ
+toBytes zero n = []
+toBytes (suc k) n = n % 256 ∷ toBytes k (n / 256)
+
+-- the operand of k bytes at an offset of a stream
+abbrev pub unsignedAt : List ℕ → ℕ → ℕ → ℕ
+unsignedAt s at k = fromBytes (take k (drop at s))
+
+-- the signed 64-bit operand at an offset, and the bytes of one
+abbrev pub signedAt : List ℕ → ℕ → ℤ
+signedAt s at = toZ w64 (unsignedAt s at 8)
+
+abbrev pub signedBytes : ℤ → List ℕ
+signedBytes z = toBytes 8 (ofZ w64 z)

@@ -1,0 +1,127 @@
+-- What a state has that the checks let pass, and that what has it passes.
+use Prim.Native.Nat.{ℕ, zero, suc, _+_, _<_, _≤_}
+use mathlib.Core.Path.{_≡_, refl, sym}
+use mathlib.Core.Bool.{Bool, true, false, not, cond, _&&_}
+use native.Mathlib.Omega.{arith}
+use lib.Dec.{eqb, ltb, leb}
+use lib.IntN.{ℤ, pos, negsuc}
+use lib.Signed.{leZ}
+use lib.ListN.{getD}
+use borrow.Author.Tests.{ltb-true, leb-true, eqb-true}
+use Rattle.integers.specs.Bounds.{Within}
+use Rattle.integers.proofs.Difference.{ints}
+use Rattle.integers.proofs.Bounds.{within-zero}
+use Rattle.state.specs.Rejections.{unless, _then_}
+use Rattle.state.specs.Fixed.{inRange, isReading, isZero, maxCount}
+use Rattle.state.specs.Models.{trendOf, seasonOf, hasTrend, hasSeason, validModel, periodOk, gainOk, dampingOk, parametersOk}
+use Rattle.state.specs.States.{trendOk, cellOk, seasonalOk, indexOk, countOk, check}
+use Rattle.state.specs.declared.State.{State}
+use Rattle.state.proofs.Tests.{both, unless-zero, then-zero, zero-is, allBelow-at}
+use Rattle.state.proofs.Rounding.{R-none}
+
+-- the checks as tests, in their order
+pub record Passed (s : State) : Type 0 where
+  pub model : validModel (s .model) ≡ true
+  pub period : periodOk (s .model) (s .period) ≡ true
+  pub alpha : leb (s .alpha) 65536 ≡ true
+  pub beta : gainOk (hasTrend (s .model)) (s .beta) ≡ true
+  pub gamma : gainOk (hasSeason (s .model)) (s .gamma) ≡ true
+  pub phi : dampingOk (trendOf (s .model)) (s .phi) ≡ true
+  pub level : inRange (s .level) ≡ true
+  pub trend : trendOk (s .model) (s .trend) ≡ true
+  pub seasonal : seasonalOk (s .period) (s .seasonal) ≡ true
+  pub index : indexOk (s .period) (s .index) ≡ true
+  pub count : countOk (s .count) ≡ true
+
+pub passed : (s : State) → check s ≡ 0 → Passed s
+unfolding check
+passed s h =
+    let c5 = then-zero _ _ h in
+    let c6 = then-zero _ _ (c5 .1) in
+    let c7 = then-zero _ _ (c6 .1) in
+    let c9 = then-zero _ _ (c7 .1) in
+    let p3 = both _ _ (unless-zero _ 6 (c7 .0)) in
+    let p2 = both _ _ (p3 .0) in
+    let p1 = both _ _ (p2 .0) in
+    let v2 = both _ _ (unless-zero _ 8 (c9 .0)) in
+    let v1 = both _ _ (v2 .0) in
+    let q = both _ _ (unless-zero _ 9 (c9 .1)) in
+    record {
+      model = unless-zero _ 4 (c5 .0);
+      period = unless-zero _ 5 (c6 .0);
+      alpha = p1 .0;
+      beta = p1 .1;
+      gamma = p2 .1;
+      phi = p3 .1;
+      level = v1 .0;
+      trend = v1 .1;
+      seasonal = v2 .1;
+      index = q .0;
+      count = q .1;
+    }
+
+pub passes : (s : State) → Passed s → check s ≡ 0
+unfolding check
+passes s p =
+    rw (p .model, p .period, p .alpha, p .beta, p .gamma, p .phi, p .level, p .trend, p .seasonal, p .index, p .count)
+
+-- ---- the tests as bounds
+pub in-range : (v : ℤ) → inRange v ≡ true → Within 1099511627776 v
+in-range v h = let p = both (leZ (negsuc 1099511627775) v) (leZ v (pos 1099511627776)) h in omega ints
+
+pub is-reading : (y : ℤ) → isReading y ≡ true → Within 1000000 y
+is-reading y h = let p = both (leZ (negsuc 999999) y) (leZ y (pos 1000000)) h in omega ints
+
+zero-within : (v : ℤ) → isZero v ≡ true → Within 1099511627776 v
+zero-within v h = rw (zero-is v h) (within-zero 1099511627776)
+
+either : (t : Bool) (v : ℤ) → cond t (inRange v) (isZero v) ≡ true → Within 1099511627776 v
+either true v h = in-range v h
+either false v h = zero-within v h
+
+gain-le : (t : Bool) (x : ℕ) → gainOk t x ≡ true → x ≤ 65536
+gain-le true x h = leb-true x 65536 h
+gain-le false x h = omega (arith, eqb-true x 0 h)
+
+damping-le : (t u : Bool) (x : ℕ) → cond t (eqb x 0) (cond u (eqb x 65536) (leb 1 x && leb x 65535)) ≡ true → x ≤ 65536
+damping-le true u x h = omega (arith, eqb-true x 0 h)
+damping-le false true x h = omega (arith, eqb-true x 65536 h)
+damping-le false false x h = omega (arith, leb-true x 65535 (both (leb 1 x) (leb x 65535) h .1))
+
+period-le : (t : Bool) (m : ℕ) → cond t (leb 2 m && leb m 48) (eqb m 0) ≡ true → m ≤ 48
+period-le true m h = leb-true m 48 (both (leb 2 m) (leb m 48) h .1)
+period-le false m h = omega (arith, eqb-true m 0 h)
+
+index-lt : (t : Bool) (m p : ℕ) → m ≤ 48 → cond t (eqb p 0) (ltb p m) ≡ true → p < 48
+index-lt true m p l h = omega (arith, eqb-true p 0 h)
+index-lt false m p l h = omega (arith, ltb-true p m h)
+
+-- what the sums and products of a call rest on
+pub record Bounded (s : State) : Type 0 where
+  pub alpha : s .alpha ≤ 65536
+  pub beta : s .beta ≤ 65536
+  pub gamma : s .gamma ≤ 65536
+  pub phi : s .phi ≤ 65536
+  pub level : Within 1099511627776 (s .level)
+  pub trend : Within 1099511627776 (s .trend)
+  pub cells : (k : ℕ) → k < 48 → Within 1099511627776 (getD (s .seasonal) k (pos 0))
+  pub period : s .period ≤ 48
+  pub index : s .index < 48
+  pub count : s .count ≤ maxCount
+
+pub bounded : (s : State) → check s ≡ 0 → Bounded s
+bounded s h =
+    let p = passed s h in
+    let m : s .period ≤ 48 = period-le (hasSeason (s .model)) (s .period) (p .period) in
+    record {
+      alpha = leb-true (s .alpha) 65536 (p .alpha);
+      beta = gain-le (hasTrend (s .model)) (s .beta) (p .beta);
+      gamma = gain-le (hasSeason (s .model)) (s .gamma) (p .gamma);
+      phi = damping-le (eqb (trendOf (s .model)) 0) (eqb (trendOf (s .model)) 1) (s .phi) (p .phi);
+      level = in-range (s .level) (p .level);
+      trend = either (hasTrend (s .model)) (s .trend) (p .trend);
+      cells = λ k l. either (ltb k (s .period)) (getD (s .seasonal) k (pos 0)) (allBelow-at 48 (λ (j : ℕ). cellOk (s .period) j (getD (s .seasonal) j (pos 0))) (p .seasonal) k l);
+      period = m;
+      index = index-lt (eqb (s .period) 0) (s .period) (s .index) m (p .index);
+      count = leb-true (s .count) maxCount (p .count);
+    }

@@ -1,0 +1,13 @@
+use Rattle.state.proofs.Tests.{model-law}
+use borrow.Author.Needs.{needs}
+use Rattle.state.proofs.models.model_ok.Statement.{statement}
+use Rattle.state.proofs.models.model_ok.Tie as tie
+
+trend-of-requires : tie.Need-trend-of-requires
+trend-of-requires c κs = search needs
+
+returns : tie.Need-returns
+returns c = rw (c .trend-of .ensures) (model-law (c .before .args .model))
+
+pub model-ok-spec : {M : Type 1} → statement M
+model-ok-spec = tie.close (tie.spec trend-of-requires returns)

@@ -1,0 +1,11 @@
+-- The shift by 2 is the quotient by 4, and the mask is 2 ^ 1 − 1.
+use Prim.Native.Nat.{_/_}
+use lib.Bits.{and-mask}
+use Rattle.state.proofs.models.season_of.Statement.{statement}
+use Rattle.state.proofs.models.season_of.Tie as tie
+
+returns : tie.Need-returns
+returns c = and-mask (c .args .model / 4) 1
+
+pub season-of-spec : {M : Type 1} → statement M
+season-of-spec = tie.close (tie.spec returns)

@@ -1,0 +1,36 @@
+-- Document 01, "Grains and states" and R of "One step". Values are whole numbers of 1/65536 of a reading unit: the paper's grain, a fixed-point unit with 16 fraction bits.
+use Prim.Native.Nat.{ℕ}
+use mathlib.Core.Bool.{Bool, true, false, _&&_}
+use lib.Dec.{eqb}
+use lib.IntN.{ℤ, pos, negsuc, natAbs, _+ℤ_}
+use lib.Signed.{leZ, shrZ}
+
+-- a reading y is a whole number from −1,000,000 to 1,000,000
+abbrev pub isReading : ℤ → Bool
+isReading y = leZ (negsuc 999999) y && leZ y (pos 1000000)
+
+-- the paper's mark, −2,147,483,648: the sentinel of a missing reading in a slice
+abbrev pub isSentinel : ℤ → Bool
+isSentinel (pos n) = false
+isSentinel (negsuc n) = eqb n 2147483647
+
+-- level, trend and season values are from −2^40 to 2^40
+abbrev pub inRange : ℤ → Bool
+inRange v = leZ (negsuc 1099511627775) v && leZ v (pos 1099511627776)
+
+abbrev pub isZero : ℤ → Bool
+isZero (pos n) = eqb n 0
+isZero (negsuc n) = false
+
+-- the count of steps is at most 2^48
+abbrev pub maxCount : ℕ
+maxCount = 281474976710656
+
+-- R(v): the greatest whole number not above (v + 32768)/65536
+unfoldable pub R : ℤ → ℤ
+R v = shrZ (v +ℤ pos 32768) 65536
+
+-- R of a number that is not negative, as a natural number
+abbrev pub roundedNat : ℕ → ℕ
+unfolding R
+roundedNat v = natAbs (R (pos v))

@@ -1,0 +1,4 @@
+pub mod Rejections
+pub mod Fixed
+pub mod Models
+pub mod States

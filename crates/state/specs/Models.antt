@@ -1,0 +1,39 @@
+-- Document 01, "Grains and states": the model byte, and the season lengths and parameters that a model allows.
+use Prim.Native.Nat.{ℕ, _/_, _%_}
+use mathlib.Core.Bool.{Bool, cond, not, _&&_, _||_}
+use lib.Dec.{eqb, leb}
+
+-- bits 0 and 1 are the trend: 0 none, 1 straight, 2 damped
+abbrev pub trendOf : ℕ → ℕ
+trendOf model = model % 4
+
+-- bit 2 is the season
+abbrev pub seasonOf : ℕ → ℕ
+seasonOf model = model / 4 % 2
+
+abbrev pub hasTrend : ℕ → Bool
+hasTrend model = not (eqb (trendOf model) 0)
+
+abbrev pub hasSeason : ℕ → Bool
+hasSeason model = not (eqb (seasonOf model) 0)
+
+-- valid bytes are 0, 1, 2, 4, 5, 6
+abbrev pub validModel : ℕ → Bool
+validModel model = eqb model 0 || eqb model 1 || eqb model 2 || eqb model 4 || eqb model 5 || eqb model 6
+
+-- the season length m: 0 without season, otherwise 2 to 48
+abbrev pub periodOk : ℕ → ℕ → Bool
+periodOk model m = cond (hasSeason model) (leb 2 m && leb m 48) (eqb m 0)
+
+-- B or G: at most 65,536, and 0 where the model has no trend or no season
+abbrev pub gainOk : Bool → ℕ → Bool
+gainOk has x = cond has (leb x 65536) (eqb x 0)
+
+-- F: 0 without trend, 65,536 with straight trend, damped 1 to 65,535
+abbrev pub dampingOk : ℕ → ℕ → Bool
+dampingOk trend F = cond (eqb trend 0) (eqb F 0) (cond (eqb trend 1) (eqb F 65536) (leb 1 F && leb F 65535))
+
+-- the parameters A, B, G, F are whole 65,536ths of α, β, γ, φ, each at most 65,536
+abbrev pub parametersOk : ℕ → ℕ → ℕ → ℕ → ℕ → Bool
+parametersOk model A B G F =
+    leb A 65536 && gainOk (hasTrend model) B && gainOk (hasSeason model) G && dampingOk (trendOf model) F

@@ -1,0 +1,100 @@
+-- Document 01, "Refusals, in checking order": each number once, with its sentence. A call answers 0 for "accepted".
+use Prim.Native.Nat.{ℕ}
+use mathlib.Core.Bool.{Bool, cond}
+use lib.Dec.{eqb}
+use lib.IntN.{ℤ, pos}
+use Rattle.state.specs.declared.Outcome.{Outcome}
+use Rattle.state.specs.declared.Outcome.the-variants as outcome-of
+use Rattle.state.specs.declared.Answer.{Answer}
+use Rattle.state.specs.declared.Answer.the-variants as answer-of
+
+-- The program's input is longer than 65,536 bytes.
+abbrev pub input-too-long : ℕ
+input-too-long = 1
+
+-- The first byte of a command is none of those above.
+abbrev pub unknown-command : ℕ
+unknown-command = 2
+
+-- The command is out of place: inside a group it isn't the one due; outside one it is a command that only a group holds, or no state is open and it is not 10.
+abbrev pub out-of-place : ℕ
+out-of-place = 3
+
+-- The bytes end inside a command, or before a group begun or called for is finished.
+abbrev pub truncated : ℕ
+truncated = 4
+
+-- The model byte is not valid.
+abbrev pub bad-model : ℕ
+bad-model = 5
+
+-- The season length is not one the model allows.
+abbrev pub bad-period : ℕ
+bad-period = 6
+
+-- A parameter is not one the model allows.
+abbrev pub bad-parameter : ℕ
+bad-parameter = 7
+
+-- A season's place is not the one due.
+abbrev pub wrong-index : ℕ
+wrong-index = 8
+
+-- A level, trend or season value is out of range, or not 0 where the model has none.
+abbrev pub bad-value : ℕ
+bad-value = 9
+
+-- The place is out of range, or the count is above 2^48.
+abbrev pub bad-position : ℕ
+bad-position = 10
+
+-- The horizon is outside 1 to 512.
+abbrev pub bad-horizon : ℕ
+bad-horizon = 11
+
+-- A slice to be written is shorter than needed.
+abbrev pub short-buffer : ℕ
+short-buffer = 12
+
+-- The reading is out of range and, in a slice, not the mark.
+abbrev pub bad-reading : ℕ
+bad-reading = 13
+
+-- The count already stands at 2^48.
+abbrev pub count-full : ℕ
+count-full = 14
+
+-- A new level, trend or season value would leave its range.
+abbrev pub leaves-range : ℕ
+leaves-range = 15
+
+-- a check: 0 where the test holds, else its rejection
+abbrev pub unless : Bool → ℕ → ℕ
+unless holds n = cond holds 0 n
+
+-- checks one after the other: the first rejection, or what the later ones say
+infixr 3 _then_
+abbrev pub _then_ : ℕ → ℕ → ℕ
+n then k = cond (eqb n 0) k n
+
+-- an answer without a number: accepted where the rejection n is 0
+abbrev pub outcome : ℕ → Outcome
+outcome n = cond (eqb n 0) outcome-of.Accepted (outcome-of.Rejected n)
+
+-- an answer with a number v: accepted where the rejection n is 0
+abbrev pub answer : ℕ → ℤ → Answer
+answer n v = cond (eqb n 0) (answer-of.Accepted v) (answer-of.Rejected n)
+
+-- the paper's number of each case, 0 for "accepted"
+abbrev pub outcomeCode : Outcome → ℕ
+outcomeCode outcome-of.Accepted = 0
+outcomeCode (outcome-of.Rejected n) = n
+
+abbrev pub answerCode : Answer → ℕ
+answerCode (answer-of.Accepted v) = 0
+answerCode (answer-of.Rejected n) = n
+
+-- the number of an accepted answer, 0 for a rejected one
+abbrev pub answerValue : Answer → ℤ
+answerValue (answer-of.Accepted v) = v
+answerValue (answer-of.Rejected n) = pos 0

@@ -1,0 +1,67 @@
+// The forecaster's state by value and the checks of a state handed in: document 01, "Grains and states".
+pub mod checks;
+pub mod models;
+
+// The numbers of document 01's refusals.
+pub const INPUT_TOO_LONG: u8 = 1;
+
+pub const UNKNOWN_COMMAND: u8 = 2;
+
+pub const OUT_OF_PLACE: u8 = 3;
+
+pub const TRUNCATED: u8 = 4;
+
+pub const BAD_MODEL: u8 = 5;
+
+pub const BAD_PERIOD: u8 = 6;
+
+pub const BAD_PARAMETER: u8 = 7;
+
+pub const WRONG_INDEX: u8 = 8;
+
+pub const BAD_VALUE: u8 = 9;
+
+pub const BAD_POSITION: u8 = 10;
+
+pub const BAD_HORIZON: u8 = 11;
+
+pub const SHORT_BUFFER: u8 = 12;
+
+pub const BAD_READING: u8 = 13;
+
+pub const COUNT_FULL: u8 = 14;
+
+pub const LEAVES_RANGE: u8 = 15;
+
+// 2^48, the most steps that a state counts.
+pub const MAX_COUNT: u64 = 0x1_0000_0000_0000;
+
+// Level, trend and season values are fixed-point numbers with 16 fraction bits (document 01's grains).
+pub struct State {
+    pub model: u8,
+    // The season length m.
+    pub period: u8,
+    // A, B, G and F of document 01: 65,536ths of α, β, γ and φ.
+    pub alpha: u32,
+    pub beta: u32,
+    pub gamma: u32,
+    pub phi: u32,
+    pub level: i64,
+    pub trend: i64,
+    pub seasonal: [i64; 48],
+    // The place p: the seasonal index that is due.
+    pub index: u8,
+    pub count: u64,
+}
+
+// The answer of a call that gives no number.
+pub enum Outcome {
+    Accepted,
+    Rejected(u8),
+}
+
+// The answer of a call that gives a number.
+pub enum Answer {
+    Accepted(i64),
+    Rejected(u8),
+}

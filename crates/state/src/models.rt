@@ -1,0 +1,22 @@
+// The model byte, taken apart by masks and shifts and put together again.
+ghost use mathlib.Core.Path.{_≡_};
+ghost use Prim.Native.Nat.{_+_, _*_};
+ghost use Rattle.state.specs.Models.{trendOf, seasonOf, validModel};
+
+pub fn trend_of(model: u8) -> u8
+    ensures { λ r. ⌜ r ≡ trendOf model ⌝ }
+{
+    model & 3
+}
+
+pub fn season_of(model: u8) -> u8
+    ensures { λ r. ⌜ r ≡ seasonOf model ⌝ }
+{
+    (model >> 2) & 1
+}
+
+pub fn model_ok(model: u8) -> bool
+    ensures { λ r. ⌜ r ≡ validModel model ⌝ }
+{
+    (model >> 3 == 0) & (trend_of(model) != 3)
+}

@@ -1,0 +1,51 @@
+-- Document 01, "Forecast and variance": the weights (document 000, Class 1) and the variance.
+use Prim.Native.Nat.{ℕ, zero, suc, _+_, _-_, _*_, _/_, _%_}
+use mathlib.Core.Bool.{cond, _&&_}
+use lib.Dec.{eqb}
+use Rattle.state.specs.Fixed.{roundedNat}
+use Rattle.state.specs.Models.{trendOf, hasSeason}
+use Rattle.state.specs.declared.State.{State}
+use Rattle.ets.specs.Forecasts.{forecastCode}
+use Rattle.weights.specs.declared.Weight.{Weight}
+use Rattle.weights.specs.declared.Weight.the-variants as weight-of
+use Rattle.weights.specs.declared.Variance.{Variance}
+use Rattle.weights.specs.declared.Variance.the-variants as variance-of
+
+-- P is 0 before j = 1 and at each j becomes R(F × (P + 65536))
+unfoldable pub dampingSum : ℕ → ℕ → ℕ
+dampingSum F zero = 0
+dampingSum F (suc j) = roundedNat (F * (dampingSum F j + 65536))
+
+-- the trend term: 0 without trend, B × j when straight, R(B × P) when damped
+unfoldable pub trendTerm : State → ℕ → ℕ
+trendTerm s j =
+    cond (eqb (trendOf (s .model)) 0) 0
+    (cond (eqb (trendOf (s .model)) 1) (s .beta * j) (roundedNat (s .beta * dampingSum (s .phi) j)))
+
+-- G where m divides j; without season G is left out
+unfoldable pub seasonTerm : State → ℕ → ℕ
+seasonTerm s j = cond (hasSeason (s .model) && eqb (j % s .period) 0) (s .gamma) 0
+
+-- the j-th coefficient C
+unfoldable pub coefficient : State → ℕ → ℕ
+coefficient s j = s .alpha + trendTerm s j + seasonTerm s j
+
+-- the sum of C × C for j from 1 to n
+unfoldable pub squares : State → ℕ → ℕ
+squares s zero = 0
+squares s (suc n) = squares s n + coefficient s (suc n) * coefficient s (suc n)
+
+-- the weight of h is 2^32 plus the sum of C × C for j from 1 to h − 1
+unfoldable pub weightOf : State → ℕ → ℕ
+weightOf s h = 4294967296 + squares s (h - 1)
+
+-- the calls are rejected as a forecast is: the state's checks, then 11
+unfoldable pub weight : State → ℕ → Weight
+weight s h = cond (eqb (forecastCode s h) 0) (weight-of.Accepted (weightOf s h)) (weight-of.Rejected (forecastCode s h))
+
+-- the weight times σ², exact, as a high and a low 64-bit word
+unfoldable pub variance : State → ℕ → ℕ → Variance
+variance s h sigma2 =
+    cond (eqb (forecastCode s h) 0)
+    (variance-of.Accepted (weightOf s h * sigma2 / 18446744073709551616) (weightOf s h * sigma2 % 18446744073709551616))
+    (variance-of.Rejected (forecastCode s h))

@@ -1,0 +1,11 @@
+// The weights and the variance of a forecast: document 01, "Forecast and variance".
+pub enum Weight {
+    Accepted(u64),
+    Rejected(u8),
+}
+
+// In 2^32ths of a square reading unit.
+pub enum Variance {
+    Accepted { high: u64, low: u64 },
+    Rejected(u8),
+}
