@@ -1,3 +1,4 @@
 pub mod Steps
 pub mod Batches
 pub mod Forecasts
+pub mod Updates

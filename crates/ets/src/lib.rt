@@ -1,4 +1,7 @@
 // The recursion of Hyndman's ETS models on a state by value: document 01, "One step" and "Forecast and variance".
+mod numbers;
+pub mod steps;
+
 use state::Answer;
 use state::Outcome;
 use state::State;

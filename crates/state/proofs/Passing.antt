@@ -7,7 +7,7 @@ use lib.Dec.{eqb, ltb, leb}
 use lib.IntN.{ℤ, pos, negsuc}
 use lib.Signed.{leZ}
 use lib.ListN.{getD}
-use borrow.Author.Tests.{ltb-true, leb-true, eqb-true}
+use borrow.Author.Tests.{ltb-true, leb-true, eqb-true, eq-eqb, ne-eqb, le-ltb, not-false}
 use Rattle.integers.specs.Bounds.{Within}
 use Rattle.integers.proofs.Difference.{ints}
 use Rattle.integers.proofs.Bounds.{within-zero}
@@ -17,7 +17,6 @@ use Rattle.state.specs.Models.{trendOf, seasonOf, hasTrend, hasSeason, v
 use Rattle.state.specs.States.{trendOk, cellOk, seasonalOk, indexOk, countOk, check}
 use Rattle.state.specs.declared.State.{State}
 use Rattle.state.proofs.Tests.{both, unless-zero, then-zero, zero-is, allBelow-at}
-use Rattle.state.proofs.Rounding.{R-none}
 
 -- the checks as tests, in their order
 pub record Passed (s : State) : Type 0 where
@@ -125,3 +124,46 @@ bounded s h =
       index = index-lt (eqb (s .period) 0) (s .period) (s .index) m (p .index);
       count = leb-true (s .count) maxCount (p .count);
     }
+
+-- ---- what a model does not have is 0
+pub record NoTrend (s : State) : Type 0 where
+  pub beta : s .beta ≡ 0
+  pub phi : s .phi ≡ 0
+  pub trend : s .trend ≡ pos 0
+
+pub no-trend : (s : State) → check s ≡ 0 → hasTrend (s .model) ≡ false → NoTrend s
+no-trend s ok h =
+    let p = passed s ok in
+    record {
+      beta = eqb-true (s .beta) 0 (rw h at (p .beta));
+      phi = eqb-true (s .phi) 0 (rw (not-false (eqb (trendOf (s .model)) 0) h) at (p .phi));
+      trend = zero-is (s .trend) (rw h at (p .trend));
+    }
+
+pub record NoSeason (s : State) : Type 0 where
+  pub period : s .period ≡ 0
+  pub gamma : s .gamma ≡ 0
+  pub index : s .index ≡ 0
+  pub cells : (k : ℕ) → k < 48 → getD (s .seasonal) k (pos 0) ≡ pos 0
+
+pub no-season : (s : State) → check s ≡ 0 → hasSeason (s .model) ≡ false → NoSeason s
+no-season s ok h =
+    let p = passed s ok in
+    let m : s .period ≡ 0 = eqb-true (s .period) 0 (rw h at (p .period)) in
+    record {
+      period = m;
+      gamma = eqb-true (s .gamma) 0 (rw h at (p .gamma));
+      index = eqb-true (s .index) 0 (rw (eq-eqb (s .period) 0 m) at (p .index));
+      cells = λ k l. zero-is (getD (s .seasonal) k (pos 0)) (rw (le-ltb k (s .period) (omega arith)) at (allBelow-at 48 (λ (j : ℕ). cellOk (s .period) j (getD (s .seasonal) j (pos 0))) (p .seasonal) k l));
+    }
+
+-- with a season the index is one of its places
+pub record Seasonal (s : State) : Type 0 where
+  pub least : 2 ≤ s .period
+  pub index : s .index < s .period
+
+pub with-season : (s : State) → check s ≡ 0 → hasSeason (s .model) ≡ true → Seasonal s
+with-season s ok h =
+    let p = passed s ok in
+    let m : 2 ≤ s .period = leb-true 2 (s .period) (both (leb 2 (s .period)) (leb (s .period) 48) (rw h at (p .period)) .0) in
+    record { least = m; index = ltb-true (s .index) (s .period) (rw (ne-eqb (s .period) 0 (omega arith)) at (p .index)) }
