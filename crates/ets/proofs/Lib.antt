@@ -1,3 +1,4 @@
 pub mod StepLaws
 pub mod UpdateLaws
 pub mod Kept
+pub mod ForecastLaws

@@ -1,0 +1,148 @@
+-- The bounds of a forecast's parts, the seasonal index that moves on with the horizon, and the list of forecasts.
+use Prim.Native.Nat.{ℕ, zero, suc, _+_, _-_, _*_, _%_, _^_, _<_, _≤_}
+use mathlib.Core.Path.{_≡_, refl, sym, ap, _∙_}
+use mathlib.Core.Bool.{Bool, true, false, not, cond, _&&_}
+use mathlib.Core.List.{List, [], _∷_, _++_}
+use native.Mathlib.Decide.{decLe}
+use native.Mathlib.Nat.{suc-mod, mod-lt, mod-eq-of-lt, mod-self}
+use native.Mathlib.Omega.{arith}
+use lib.Dec.{eqb, ltb, leb}
+use lib.IntN.{ℤ, pos, _+ℤ_, _*ℤ_}
+use lib.Signed.{mag}
+use mir.Syntax.{w64}
+use mir.Val.{SFits, toZ, ofZ}
+use mir.ValLaws.{toZ-ofZ}
+use lib.ListN.{length, getD, set, drop, length-append}
+use lib.Seq.{drop-cons, set-at, append-snoc}
+use borrow.Author.Tests.{lt-ltb, le-ltb, leb-true, eq-eqb, ne-eqb}
+use Rattle.integers.specs.Bounds.{Within}
+use Rattle.integers.proofs.Difference.{back}
+use Rattle.integers.proofs.Bounds.{within-le, within-add, within-fits}
+use Rattle.state.specs.Fixed.{R}
+use Rattle.state.specs.Models.{hasSeason}
+use Rattle.state.specs.States.{check}
+use Rattle.state.specs.declared.State.{State}
+use Rattle.state.proofs.Tests.{both, then-zero, unless-zero}
+use Rattle.state.proofs.Rounding.{R-gain}
+use Rattle.state.proofs.Passing.{Bounded, bounded, no-season, with-season}
+use Rattle.ets.specs.Steps.{nextIndex}
+use Rattle.ets.specs.Forecasts.{trendAt, trendLine, seasonAt, horizonOk, forecastCode, forecastOf, forecastList}
+use Rattle.ets.proofs.StepLaws.{first}
+
+-- the horizon of a forecast that is not rejected
+pub horizon-in : (h : ℕ) → horizonOk h ≡ true → (1 ≤ h) × (h ≤ 512)
+horizon-in h e = let p = both (leb 1 h) (leb h 512) e in (leb-true 1 h (p .0), leb-true h 512 (p .1))
+
+pub forecast-ready : (s : State) (h : ℕ) → forecastCode s h ≡ 0 → (check s ≡ 0) × (1 ≤ h) × (h ≤ 512)
+unfolding forecastCode
+forecast-ready s h z =
+    let a = then-zero (check s) _ z in
+    let k = horizon-in h (unless-zero (horizonOk h) 10 (a .1)) in
+    (a .0, k .0, k .1)
+
+pub forecast-unchecked : (s : State) (h : ℕ) → (check s ≡ 0 → ⊥) → forecastCode s h ≡ check s
+unfolding forecastCode
+forecast-unchecked s h n = first (check s) _ n
+
+-- each trend is no larger than b
+pub trend-within : {n : ℕ} {b : ℤ} (F : ℕ) → F ≤ 65536 → Within n b → (j : ℕ) → Within n (trendAt F b j)
+unfolding trendAt
+trend-within F h w zero = w
+trend-within F h w (suc j) = R-gain h (trend-within F h w j)
+
+pub line-within : (s : State) → Bounded s → (h : ℕ) → Within (1099511627776 + 1099511627776 * h) (trendLine s h)
+unfolding trendLine
+line-within s b zero = b .level
+line-within s b (suc h) = within-le _ (omega arith) (within-add (line-within s b h) (trend-within (s .phi) (b .phi) (b .trend) (suc h)))
+
+-- ---- the seasonal index i steps on
+unfoldable pub ahead : ℕ → ℕ → ℕ → ℕ
+ahead m p zero = p
+ahead m p (suc i) = nextIndex m (ahead m p i)
+
+next-small : (m p : ℕ) → m ≤ 48 → nextIndex m p < 48
+unfolding nextIndex
+next-small m p h = go (decLe m (p + 1))
+  where
+    go : Dec (m ≤ p + 1) → cond (ltb (p + 1) m) (p + 1) 0 < 48
+    go (yes l) = rw (le-ltb (p + 1) m l) (omega arith)
+    go (no l) = rw (lt-ltb (p + 1) m (omega arith)) (omega arith)
+
+pub ahead-small : (m p i : ℕ) → m ≤ 48 → p < 48 → ahead m p i < 48
+unfolding ahead
+ahead-small m p zero h k = k
+ahead-small m p (suc i) h k = next-small m (ahead m p i) h
+
+-- it is the remainder by m
+next-mod : (m x : ℕ) → 0 < m → nextIndex m (x % m) ≡ suc x % m
+unfolding nextIndex
+next-mod m x h = go (decLe m (x % m + 1))
+  where
+    go : Dec (m ≤ x % m + 1) → cond (ltb (x % m + 1) m) (x % m + 1) 0 ≡ suc x % m
+    go (yes l) =
+        let e : suc (x % m) ≡ m = omega (arith, mod-lt x h) in
+        rw (le-ltb (x % m + 1) m l, suc-mod x m, e) (sym (mod-self m))
+    go (no l) =
+        let k : suc (x % m) < m = omega arith in
+        rw (lt-ltb (x % m + 1) m (omega arith), suc-mod x m, mod-eq-of-lt k) (omega arith)
+
+ahead-mod : (m p i : ℕ) → p < m → ahead m p i ≡ (p + i) % m
+unfolding ahead
+ahead-mod m p zero h = let e : p + 0 ≡ p = omega arith in rw (e, mod-eq-of-lt h)
+ahead-mod m p (suc i) h =
+    let e : p + suc i ≡ suc (p + i) = omega arith in
+    rw (ahead-mod m p i h, e) (next-mod m (p + i) (omega arith))
+
+-- without season it stays 0
+ahead-none : (i : ℕ) → ahead 0 0 i ≡ 0
+unfolding ahead nextIndex
+ahead-none zero = refl
+ahead-none (suc i) = rw (ahead-none i)
+
+-- what the code reads at it is the season's value for the next horizon
+pub season-ahead : (s : State) → check s ≡ 0 → (i : ℕ) → seasonAt s (suc i) ≡ getD (s .seasonal) (ahead (s .period) (s .index) i) (pos 0)
+unfolding seasonAt
+season-ahead s ok i = go (hasSeason (s .model)) refl
+  where
+    go : (t : Bool) → hasSeason (s .model) ≡ t → cond t (getD (s .seasonal) ((s .index + suc i - 1) % s .period) (pos 0)) (pos 0) ≡ getD (s .seasonal) (ahead (s .period) (s .index) i) (pos 0)
+    go true h =
+        let e : s .index + suc i - 1 ≡ s .index + i = omega arith in
+        rw (e, ahead-mod (s .period) (s .index) i (with-season s ok h .index))
+    go false h =
+        let none = no-season s ok h in
+        rw (none .period, none .index, ahead-none i) (sym (none .cells 0 (omega arith)))
+
+-- ---- the list of forecasts
+pub list-length : (s : State) (h : ℕ) → length (forecastList s h) ≡ h
+unfolding forecastList
+list-length s zero = refl
+list-length s (suc h) = rw (length-append, list-length s h) (omega arith)
+
+-- one more forecast stored
+pub list-more : (s : State) (i : ℕ) (cells : List ℤ) → i < length cells →
+    set (forecastList s i ++ drop i cells) i (forecastOf s (suc i)) ≡ forecastList s (suc i) ++ drop (suc i) cells
+unfolding forecastList
+list-more s i cells h =
+    rw (drop-cons cells i (pos 0))
+    (set-at (forecastList s i) (getD cells i (pos 0)) (drop (suc i) cells) (forecastOf s (suc i)) i (list-length s i)
+    ∙ sym (append-snoc (forecastList s i) (forecastOf s (suc i)) (drop (suc i) cells)))
+
+-- ---- a turn of the loops: d is the trend and l the line of i steps, and r is R(F × d)
+pub record Turn (s : State) (i : ℕ) (l r : ℤ) : Type 0 where
+  pub trend : toZ w64 (ofZ w64 r) ≡ trendAt (s .phi) (s .trend) (suc i)
+  pub fits : SFits w64 (l +ℤ toZ w64 (ofZ w64 r))
+  pub line : toZ w64 (ofZ w64 (l +ℤ toZ w64 (ofZ w64 r))) ≡ trendLine s (suc i)
+
+pub line-bound : (s : State) → Bounded s → (h : ℕ) → h ≤ 512 → Within 564049465049088 (trendLine s h)
+line-bound s b h k = within-le 564049465049088 (omega arith) (line-within s b h)
+
+pub trend-bound : (s : State) → Bounded s → (i : ℕ) → Within 8796093022208 (trendAt (s .phi) (s .trend) i)
+trend-bound s b i = within-le 8796093022208 (omega arith) (trend-within (s .phi) (b .phi) (b .trend) i)
+
+pub turn : (s : State) → Bounded s → (i : ℕ) → i < 512 → (d l r : ℤ) → d ≡ trendAt (s .phi) (s .trend) i → l ≡ trendLine s i
+    → mag r < 2 ^ 63 → r ≡ R (pos (s .phi) *ℤ d) → Turn s i l r
+unfolding trendAt trendLine
+turn s b i h d l r ed el f er =
+    let t : toZ w64 (ofZ w64 r) ≡ trendAt (s .phi) (s .trend) (suc i) = back w64 r f ∙ er ∙ rw ed in
+    let w : SFits w64 (trendLine s (suc i)) = within-fits w64 (line-bound s b (suc i) (omega arith)) (omega arith) in
+    record { trend = t; fits = rw (t, el) w; line = rw (t, el) (toZ-ofZ w64 (trendLine s (suc i)) w) }

@@ -1,0 +1,111 @@
+// Forecasts from a state by value: for one horizon, and for all of them into a lent buffer.
+use super::numbers::gain;
+use super::numbers::next_index;
+use state::Answer;
+use state::BAD_HORIZON;
+use state::Outcome;
+use state::SHORT_BUFFER;
+use state::State;
+use state::checks::check;
+use state::models::season_of;
+ghost use mathlib.Core.Path.{_≡_};
+ghost use mathlib.Core.List.{_++_};
+ghost use Prim.Native.Nat.{_≤_};
+ghost use lib.ListN.{length, drop};
+ghost use Rattle.integers.specs.Bounds.{Within};
+ghost use Rattle.state.specs.States.{check};
+ghost use Rattle.ets.specs.Forecasts.{horizonOk, trendLine, seasonAt, forecastCode, forecast, forecastList, forecasts, forecastCells};
+
+fn horizon_ok(h: u32) -> bool
+    ensures { λ r. ⌜ r ≡ horizonOk h ⌝ }
+{
+    (1 <= h) & (h <= 512)
+}
+
+// What rejects a forecast, or 0.
+pub fn forecast_code(s: State, h: u32) -> u8
+    ensures { λ r. ⌜ r ≡ forecastCode s h ⌝ }
+{
+    let n = check(s);
+    if n != 0 {
+        return n;
+    }
+    if horizon_ok(h) { 0 } else { BAD_HORIZON }
+}
+
+// The level and the trends of h steps.
+fn trend_line(s: State, h: u32) -> i64
+    requires { ⌜ (check s ≡ 0) × (h ≤ 512) ⌝ }
+    ensures value { λ r. ⌜ r ≡ trendLine s h ⌝ }
+    ensures bound { λ r. ⌜ Within 564049465049088 r ⌝ }
+{
+    let mut line = s.level;
+    let mut d = s.trend;
+    for j in 0..h {
+        d = gain(s.phi, d);
+        line = line + d;
+    }
+    line
+}
+
+fn season_at(s: State, h: u32) -> i64
+    requires { ⌜ (check s ≡ 0) × (1 ≤ h) × (h ≤ 512) ⌝ }
+    ensures value { λ r. ⌜ r ≡ seasonAt s h ⌝ }
+    ensures bound { λ r. ⌜ Within 1099511627776 r ⌝ }
+{
+    if season_of(s.model) == 0 {
+        return 0;
+    }
+    let p = s.index as u32;
+    let m = s.period as u32;
+    let k = ((p + h - 1) % m) as usize;
+    s.seasonal[k]
+}
+
+// The forecast for one horizon.
+pub fn forecast(s: State, h: u32) -> Answer
+    ensures { λ r. ⌜ r ≡ forecast s h ⌝ }
+{
+    let n = forecast_code(s, h);
+    if n != 0 {
+        return Answer::Rejected(n);
+    }
+    Answer::Accepted(trend_line(s, h) + season_at(s, h))
+}
+
+// The forecasts for the horizons 1 to h: the trend and the seasonal index move on from one to the next.
+fn fill(s: State, h: usize, values: &mut [i64])
+    requires { ⌜ (check s ≡ 0) × (h ≤ 512) × (h ≤ length (now values)) ⌝ }
+    ensures { λ _. ⌜ now (values .exit) ≡ forecastList s h ++ drop h (now (values .entry)) ⌝ }
+{
+    let mut line = s.level;
+    let mut d = s.trend;
+    let mut p = s.index;
+    let mut i = 0;
+    while i < h {
+        d = gain(s.phi, d);
+        line = line + d;
+        let k = p as usize;
+        let season = s.seasonal[k];
+        values[i] = line + season;
+        p = next_index(s.period, p);
+        i += 1;
+    }
+}
+
+// The forecasts for all horizons to h, in the first h elements of a buffer; a rejected call writes nothing.
+pub fn forecasts(s: State, h: u32, values: &mut [i64]) -> Outcome
+    ensures answer { λ r. ⌜ r ≡ forecasts s h (length (now (values .entry))) ⌝ }
+    ensures buffer { λ _. ⌜ now (values .exit) ≡ forecastCells s h (now (values .entry)) ⌝ }
+{
+    let n = forecast_code(s, h);
+    if n != 0 {
+        return Outcome::Rejected(n);
+    }
+    let count = h as usize;
+    if values.len() < count {
+        return Outcome::Rejected(SHORT_BUFFER);
+    }
+    fill(s, count, values);
+    Outcome::Accepted
+}
