@@ -39,13 +39,18 @@ squares s (suc n) = squares s n + coefficient s (suc n) * coefficient s (suc n)
 unfoldable pub weightOf : State → ℕ → ℕ
 weightOf s h = 4294967296 + squares s (h - 1)
 
--- the calls are rejected as a forecast is: the state's checks, then 11
-unfoldable pub weight : State → ℕ → Weight
-weight s h = cond (eqb (forecastCode s h) 0) (weight-of.Accepted (weightOf s h)) (weight-of.Rejected (forecastCode s h))
+-- each case of the answers by the paper's number, 0 for "accepted", and its values; the variance as a high and a low 64-bit word
+abbrev pub weightAnswer : ℕ → ℕ → Weight
+weightAnswer n w = cond (eqb n 0) (weight-of.Accepted w) (weight-of.Rejected n)
 
--- the weight times σ², exact, as a high and a low 64-bit word
+abbrev pub varianceAnswer : ℕ → ℕ → Variance
+varianceAnswer n v =
+    cond (eqb n 0) (variance-of.Accepted (v / 18446744073709551616) (v % 18446744073709551616)) (variance-of.Rejected n)
+
+-- the calls, rejected as a forecast is: by the state's checks, then 11
+unfoldable pub weight : State → ℕ → Weight
+weight s h = weightAnswer (forecastCode s h) (weightOf s h)
+
+-- the variance is the weight times σ², exact
 unfoldable pub variance : State → ℕ → ℕ → Variance
-variance s h sigma2 =
-    cond (eqb (forecastCode s h) 0)
-    (variance-of.Accepted (weightOf s h * sigma2 / 18446744073709551616) (weightOf s h * sigma2 % 18446744073709551616))
-    (variance-of.Rejected (forecastCode s h))
+variance s h sigma2 = varianceAnswer (forecastCode s h) (weightOf s h * sigma2)

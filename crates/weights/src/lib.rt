@@ -1,4 +1,7 @@
 // The weights and the variance of a forecast: document 01, "Forecast and variance".
+mod sums;
+pub mod variances;
+
 pub enum Weight {
     Accepted(u64),
     Rejected(u8),

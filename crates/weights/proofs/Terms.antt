@@ -1,0 +1,66 @@
+-- The terms of a coefficient, as a loop over j comes by them from those of j − 1.
+use Prim.Native.Nat.{ℕ, zero, suc, _+_, _-_, _*_, _%_, _≤_, _<_}
+use mathlib.Core.Path.{_≡_, refl, ap}
+use mathlib.Core.Bool.{Bool, true, false, cond, _&&_}
+use native.Mathlib.Omega.{arith}
+use native.Mathlib.Nat.{mul-le-mul, mod-lt, mod-zero, mod-self, mod-eq-of-lt, suc-mod}
+use lib.Dec.{eqb}
+use borrow.Author.Tests.{eqb-true, eqb-false}
+use Rattle.state.specs.Fixed.{roundedNat}
+use Rattle.state.specs.Models.{trendOf, hasSeason, gainOk}
+use Rattle.state.specs.States.{check}
+use Rattle.state.specs.declared.State.{State}
+use Rattle.state.proofs.Passing.{passed}
+use Rattle.weights.specs.Weights.{dampingSum, trendTerm, seasonTerm, coefficient, squares, weightOf}
+
+-- a product of two bounded numbers
+pub product-le : (m n : ℕ) {a b : ℕ} → a ≤ m → b ≤ n → a * b ≤ m * n
+product-le m n h k = mul-le-mul h k
+
+-- the next P
+pub damping-next : (F n : ℕ) {j p q : ℕ} → suc n ≡ j → p ≡ dampingSum F n → q ≡ roundedNat (F * (p + 65536)) → q ≡ dampingSum F j
+unfolding dampingSum
+damping-next F n j p q = rw (← j, ← p) q
+
+-- the next remainder, without a division
+pub remainder-next : (m n : ℕ) {j k r : ℕ} → suc n ≡ j → k ≡ n % m → r ≡ cond (eqb (k + 1) m) 0 (k + 1) → r ≡ j % m
+remainder-next m n j k r = rw (← j, r, k) (go (eqb (n % m + 1) m) refl)
+  where
+    less : (m : ℕ) → (n % m + 1 ≡ m → ⊥) → n % m + 1 ≡ suc n % m
+    less zero f = rw (mod-zero n, mod-zero (suc n)) (omega arith)
+    less (suc m) f =
+        let l : suc (n % suc m) < suc m = omega (arith, mod-lt n {m = suc m} (omega arith)) in
+        rw (suc-mod n (suc m), mod-eq-of-lt l) (omega arith)
+
+    go : (t : Bool) → eqb (n % m + 1) m ≡ t → cond t 0 (n % m + 1) ≡ suc n % m
+    go true e =
+        let w : suc (n % m) ≡ m = omega (arith, eqb-true (n % m + 1) m e) in
+        rw (suc-mod n m, w, mod-self m)
+    go false e = less m (eqb-false _ _ e)
+
+-- without season G is 0, so the remainder alone decides
+left-out : (t u : Bool) (g : ℕ) → gainOk t g ≡ true → cond u g 0 ≡ cond (t && u) g 0
+left-out true u g h = refl
+left-out false true g h = eqb-true g 0 h
+left-out false false g h = refl
+
+-- a coefficient from the trend t, P and the remainder k of j
+pub coefficient-is : (s : State) (j : ℕ) {t p k x y : ℕ}
+    → check s ≡ 0
+    → t ≡ trendOf (s .model)
+    → p ≡ dampingSum (s .phi) j
+    → k ≡ j % s .period
+    → x ≡ cond (eqb t 0) 0 (cond (eqb t 1) (s .beta * j) (roundedNat (s .beta * p)))
+    → y ≡ cond (eqb k 0) (s .gamma) 0
+    → s .alpha + x + y ≡ coefficient s j
+unfolding coefficient trendTerm seasonTerm
+coefficient-is s j h t p k x y =
+    rw (x, y, t, p, k, left-out (hasSeason (s .model)) (eqb (j % s .period) 0) (s .gamma) (passed s h .gamma))
+
+-- the weight has one square more
+pub weight-next : (s : State) (n : ℕ) {j : ℕ} → suc n ≡ j → weightOf s (j + 1) ≡ weightOf s j + coefficient s j * coefficient s j
+unfolding weightOf squares
+weight-next s n j =
+    let now : suc n + 1 - 1 ≡ suc n = omega arith in
+    let before : suc n - 1 ≡ n = omega arith in
+    rw (← j) (omega (arith, ap (squares s) now, ap (squares s) before))

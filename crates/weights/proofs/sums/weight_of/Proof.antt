@@ -1,0 +1,159 @@
+-- The loop's invariant: P, the remainder of j − 1 by m, and the weight of j.
+use Prim.Native.Nat.{ℕ, suc, _+_, _-_, _*_, _%_, _≤_}
+use mathlib.Core.Path.{_≡_, ap}
+use native.Mathlib.Omega.{arith}
+use native.Mathlib.Nat.{zero-mod}
+use borrow.Author.Needs.{needs}
+use Rattle.state.specs.States.{check}
+use Rattle.state.specs.declared.State.{State}
+use Rattle.state.proofs.Passing.{Bounded, bounded}
+use Rattle.weights.specs.Weights.{dampingSum, coefficient, squares, weightOf}
+use Rattle.ets.proofs.ForecastLaws.{forecast-ready}
+use Rattle.weights.proofs.Terms.{product-le, damping-next, remainder-next, coefficient-is, weight-next}
+use Rattle.weights.proofs.sums.weight_of.Statement.{statement}
+use Rattle.weights.proofs.sums.weight_of.Tie as tie
+
+abbrev Inv-loop : tie.InvT-loop
+Inv-loop s h trend sum₀ p₀ k₀ j₀ sum p k j =
+    (1 ≤ j)
+    × (j ≤ h)
+    × (h ≤ 512)
+    × (p ≤ 65536 * j)
+    × (k ≤ j)
+    × (sum ≤ 4294967296 + 1134713179734016 * j)
+    × (p ≡ dampingSum (s .phi) (j - 1))
+    × (k ≡ (j - 1) % s .period)
+    × (sum ≡ weightOf s j)
+
+abbrev μ-loop : tie.MeasureT-loop
+μ-loop s h trend sum₀ p₀ k₀ j₀ sum p k j = h - j
+
+-- the facts of one turn, in the order of its calls
+allowed : (c : tie.Start Inv-loop μ-loop) → (check (c .args .s) ≡ 0) × (1 ≤ c .args .h) × (c .args .h ≤ 512)
+allowed c = forecast-ready (c .args .s) (c .args .h) (c .pre)
+
+module _ (c : tie.In-loop Inv-loop μ-loop) where
+  abbrev s : State
+  s = c .before .before .before .args .s
+
+  abbrev j : ℕ
+  j = c .before .loop .j
+
+  one-more : suc (j - 1) ≡ j
+  one-more = omega arith
+
+  checked : check s ≡ 0
+  checked = allowed (c .before .before .before) .0
+
+  bounds : Bounded s
+  bounds = bounded s checked
+
+p-is : (c : tie.After-damping-sum Inv-loop μ-loop) → c .damping-sum .result ≡ dampingSum (s (c .before) .phi) (j (c .before))
+p-is c =
+    let at = c .before in
+    damping-next (s at .phi) (j at - 1) (one-more at) (at .before .loop .inv .6) (c .damping-sum .ensures .0)
+
+k-is : (c : tie.After-next-remainder Inv-loop μ-loop) → c .next-remainder .result ≡ j (c .before .before) % s (c .before .before) .period
+k-is c =
+    let at = c .before .before in
+    remainder-next (s at .period) (j at - 1) (one-more at) (at .before .loop .inv .7) (c .next-remainder .ensures .0)
+
+module _ (c : tie.After-season-term Inv-loop μ-loop) where
+  abbrev at : tie.In-loop Inv-loop μ-loop
+  at = c .before .before .before .before .before
+
+  abbrev coef : ℕ
+  coef = s at .alpha + c .before .trend-term .result + c .season-term .result
+
+  coef-small : coef ≤ 33685504
+  coef-small = let b = bounds at in omega (arith, c .before .trend-term .ensures .1, c .season-term .ensures .1)
+
+  square-small : coef * coef ≤ 1134713179734016
+  square-small = product-le 33685504 33685504 coef-small coef-small
+
+  coef-is : coef ≡ coefficient (s at) (j at)
+  coef-is =
+      let turn = c .before .before .before in
+      coefficient-is (s at) (j at) (checked at) (at .before .before .trend-of .ensures) (p-is (turn .before)) (k-is turn) (c .before .trend-term .ensures .0) (c .season-term .ensures .0)
+
+trend-of-requires : tie.Need-trend-of-requires Inv-loop μ-loop
+trend-of-requires c κs = search needs
+
+loop-holds : tie.Need-loop-holds Inv-loop μ-loop
+unfolding dampingSum squares weightOf
+loop-holds c = let a = allowed (c .before) in search (needs, zero-mod)
+
+damping-sum-requires : tie.Need-damping-sum-requires Inv-loop μ-loop
+damping-sum-requires c κs = let b = bounds c in omega arith
+
+next-remainder-requires : tie.Need-next-remainder-requires Inv-loop μ-loop
+next-remainder-requires c κs = omega arith
+
+cast-c : tie.Need-cast-c Inv-loop μ-loop
+cast-c c = search needs
+
+trend-term-requires : tie.Need-trend-term-requires Inv-loop μ-loop
+trend-term-requires c κs = let b = bounds (c .before .before .before) in omega arith
+
+add-c : tie.Need-add-c Inv-loop μ-loop
+add-c c = let b = bounds (c .before .before .before .before) in omega arith
+
+season-term-requires : tie.Need-season-term-requires Inv-loop μ-loop
+season-term-requires c κs = search needs
+
+add-c-2 : tie.Need-add-c-2 Inv-loop μ-loop
+add-c-2 c = omega (arith, coef-small c)
+
+mul-sum : tie.Need-mul-sum Inv-loop μ-loop
+mul-sum c = omega (arith, square-small c)
+
+add-sum : tie.Need-add-sum Inv-loop μ-loop
+add-sum c = omega (arith, square-small c)
+
+add-j : tie.Need-add-j Inv-loop μ-loop
+add-j c = search needs
+
+loop-less : tie.Need-loop-less Inv-loop μ-loop
+loop-less c = search needs
+
+loop-again : tie.Need-loop-again Inv-loop μ-loop
+loop-again c =
+    let now : j (at c) + 1 - 1 ≡ j (at c) = omega arith in
+    let turn = c .before .before .before in (
+      omega arith,
+      omega arith,
+      omega arith,
+      omega arith,
+      omega arith,
+      omega (arith, square-small c),
+      rw now (p-is (turn .before)),
+      rw now (k-is turn),
+      omega (arith, at c .before .loop .inv .8, ap (λ (x : ℕ). x * x) (coef-is c), weight-next (s (at c)) (j (at c) - 1) (one-more (at c))),
+    )
+
+returns : tie.Need-returns Inv-loop μ-loop
+returns c =
+    let e : c .before .loop .j ≡ c .before .before .before .args .h = omega arith in
+    rw e at (c .before .loop .inv .8)
+
+pub weight-of-spec : {M : Type 1} → statement M
+weight-of-spec =
+    tie.close
+    (tie.spec
+    Inv-loop
+    μ-loop
+    trend-of-requires
+    loop-holds
+    damping-sum-requires
+    next-remainder-requires
+    cast-c
+    trend-term-requires
+    add-c
+    season-term-requires
+    add-c-2
+    mul-sum
+    add-sum
+    add-j
+    loop-less
+    loop-again
+    returns)

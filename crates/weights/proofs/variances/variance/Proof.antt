@@ -1,0 +1,29 @@
+use mathlib.Core.Path.{sym, _∙_}
+use borrow.Author.Needs.{needs}
+use borrow.Author.Tests.{ne-eqb}
+use Rattle.weights.specs.Weights.{variance}
+use Rattle.weights.proofs.variances.variance.Statement.{statement}
+use Rattle.weights.proofs.variances.variance.Tie as tie
+
+forecast-code-requires : tie.Need-forecast-code-requires
+forecast-code-requires c κs = search needs
+
+weight-of-requires : tie.Need-weight-of-requires
+weight-of-requires c κs = sym (c .before .forecast-code .ensures) ∙ c .if1 .taken
+
+product-requires : tie.Need-product-requires
+product-requires c κs = search needs
+
+returns : tie.Need-returns
+unfolding variance
+returns c =
+    let w = c .before in
+    rw (← (w .before .before .forecast-code .ensures), w .before .if1 .taken, ← (w .weight-of .ensures)) (c .product .ensures)
+
+returns-2 : tie.Need-returns-2
+unfolding variance
+returns-2 c = rw (← (c .before .forecast-code .ensures), ne-eqb _ 0 (c .if1 .left))
+
+pub variance-spec : {M : Type 1} → statement M
+variance-spec =
+    tie.close (tie.spec forecast-code-requires weight-of-requires product-requires returns returns-2)

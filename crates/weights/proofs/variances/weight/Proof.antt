@@ -1,0 +1,23 @@
+use mathlib.Core.Path.{sym, _∙_}
+use borrow.Author.Needs.{needs}
+use borrow.Author.Tests.{ne-eqb}
+use Rattle.weights.specs.Weights.{weight}
+use Rattle.weights.proofs.variances.weight.Statement.{statement}
+use Rattle.weights.proofs.variances.weight.Tie as tie
+
+forecast-code-requires : tie.Need-forecast-code-requires
+forecast-code-requires c κs = search needs
+
+weight-of-requires : tie.Need-weight-of-requires
+weight-of-requires c κs = sym (c .before .forecast-code .ensures) ∙ c .if1 .taken
+
+returns : tie.Need-returns
+unfolding weight
+returns c = rw (← (c .before .before .forecast-code .ensures), c .before .if1 .taken, ← (c .weight-of .ensures))
+
+returns-2 : tie.Need-returns-2
+unfolding weight
+returns-2 c = rw (← (c .before .forecast-code .ensures), ne-eqb _ 0 (c .if1 .left))
+
+pub weight-spec : {M : Type 1} → statement M
+weight-spec = tie.close (tie.spec forecast-code-requires weight-of-requires returns returns-2)

@@ -1,0 +1,87 @@
+// The arithmetic of a weight and its product with σ².
+use super::Variance;
+use state::State;
+use state::models::trend_of;
+ghost use Prim.Native.Nat.{_+_, _*_, _/_, _%_, _≤_};
+ghost use mathlib.Core.Path.{_≡_};
+ghost use mathlib.Core.Bool.{cond};
+ghost use lib.Dec.{eqb};
+ghost use Rattle.state.specs.Fixed.{roundedNat};
+ghost use Rattle.ets.specs.Forecasts.{forecastCode};
+ghost use Rattle.weights.specs.Weights.{weightOf};
+
+// R of a number that is not negative.
+fn rounded(v: u64) -> u64
+    requires { ⌜ v ≤ 4398046511104 ⌝ }
+    ensures { λ r. ⌜ r ≡ roundedNat v ⌝ }
+{
+    (v + 32768) >> 16
+}
+
+// The P after p.
+fn damping_sum(f: u32, p: u64) -> u64
+    requires { ⌜ (f ≤ 65536) × (p ≤ 33554432) ⌝ }
+    ensures { λ r. ⌜ (r ≡ roundedNat (f * (p + 65536))) × (r ≤ p + 65536) ⌝ }
+{
+    rounded((f as u64) * (p + 65536))
+}
+
+fn trend_term(trend: u8, b: u32, j: u32, p: u64) -> u64
+    requires { ⌜ (b ≤ 65536) × (j ≤ 512) × (p ≤ 33554432) ⌝ }
+    ensures { λ r. ⌜ (r ≡ cond (eqb trend 0) 0 (cond (eqb trend 1) (b * j) (roundedNat (b * p)))) × (r ≤ 33554432) ⌝ }
+{
+    if trend == 0 {
+        return 0;
+    }
+    if trend == 1 {
+        return (b as u64) * (j as u64);
+    }
+    rounded((b as u64) * p)
+}
+
+// The remainder by m of j, from that of j − 1: no division in each turn.
+fn next_remainder(k: u32, m: u8) -> u32
+    requires { ⌜ k ≤ 512 ⌝ }
+    ensures { λ r. ⌜ (r ≡ cond (eqb (k + 1) m) 0 (k + 1)) × (r ≤ k + 1) ⌝ }
+{
+    let n = k + 1;
+    if n == (m as u32) { 0 } else { n }
+}
+
+// G where m divides j: where the remainder is 0.
+fn season_term(g: u32, remainder: u32) -> u64
+    ensures { λ r. ⌜ (r ≡ cond (eqb remainder 0) g 0) × (r ≤ g) ⌝ }
+{
+    if remainder == 0 { g as u64 } else { 0 }
+}
+
+// The weight of a horizon that is not rejected.
+pub fn weight_of(s: State, h: u32) -> u64
+    requires { ⌜ forecastCode s h ≡ 0 ⌝ }
+    ensures { λ r. ⌜ r ≡ weightOf s h ⌝ }
+{
+    let trend = trend_of(s.model);
+    let mut sum: u64 = 0x1_0000_0000;
+    let mut p: u64 = 0;
+    let mut k: u32 = 0;
+    for j in 1..h {
+        p = damping_sum(s.phi, p);
+        k = next_remainder(k, s.period);
+        let c = (s.alpha as u64) + trend_term(trend, s.beta, j, p) + season_term(s.gamma, k);
+        sum = sum + c * c;
+    }
+    sum
+}
+
+// A weight times σ² in two words, from two products of 64 bits.
+pub fn product(w: u64, sigma2: u32) -> Variance
+    ensures { λ r. ⌜ r ≡ Variance.Accepted (w * sigma2 / 18446744073709551616) (w * sigma2 % 18446744073709551616) ⌝ }
+{
+    let v = sigma2 as u64;
+    let low = (w % 0x1_0000_0000) * v;
+    let mid = (w >> 32) * v + (low >> 32);
+    Variance::Accepted {
+        high: mid >> 32,
+        low: (mid % 0x1_0000_0000) * 0x1_0000_0000 + low % 0x1_0000_0000,
+    }
+}

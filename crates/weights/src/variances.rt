@@ -1,0 +1,31 @@
+// The calls: rejected as a forecast is, by the state's checks and then by the horizon.
+use super::Variance;
+use super::Weight;
+use super::sums::product;
+use super::sums::weight_of;
+use ets::forecasts::forecast_code;
+use state::State;
+ghost use mathlib.Core.Path.{_≡_};
+ghost use Rattle.weights.specs.Weights.{weight, variance};
+
+pub fn weight(s: State, h: u32) -> Weight
+    ensures { λ r. ⌜ r ≡ weight s h ⌝ }
+{
+    let n = forecast_code(s, h);
+    if n == 0 {
+        Weight::Accepted(weight_of(s, h))
+    } else {
+        Weight::Rejected(n)
+    }
+}
+
+pub fn variance(s: State, h: u32, sigma2: u32) -> Variance
+    ensures { λ r. ⌜ r ≡ variance s h sigma2 ⌝ }
+{
+    let n = forecast_code(s, h);
+    if n == 0 {
+        product(weight_of(s, h), sigma2)
+    } else {
+        Variance::Rejected(n)
+    }
+}
