@@ -1,4 +1,5 @@
 // The recursion of Hyndman's ETS models on a state by value: document 01, "One step" and "Forecast and variance".
+pub mod batches;
 pub mod forecasts;
 mod numbers;
 pub mod steps;

@@ -53,7 +53,7 @@ fn advance(a: u32, b: u32, g: u32, f: u32, level: i64, trend: i64, season: i64, 
     }
 }
 
-fn not_taken(code: u8) -> Update
+pub fn not_taken(code: u8) -> Update
     ensures { λ r. ⌜ r ≡ notTaken code ⌝ }
 {
     Update {

@@ -1,0 +1,156 @@
+-- The forecast from the same state against the exact one.
+use mathlib.Core.Path.{_≡_, refl, sym, _∙_, ap}
+use mathlib.Core.Bool.{true, not}
+use Prim.Native.Nat.{ℕ, zero, suc, _+_, _*_, _/_, _%_, _^_, _≤_, _<_}
+use native.Mathlib.Nat.{le-refl, pow-succ'}
+use native.Mathlib.Numerals.{add-one}
+use native.Mathlib.Omega.{arith}
+use lib.Dec.{eqb}
+use lib.IntN.{ℤ, pos, negsuc, natAbs, _+ℤ_, _-ℤ_, _*ℤ_, zero-*ℤ}
+use borrow.Author.Tests.{eqb-true, eqb-false, not-true}
+use Rattle.integers.specs.Bounds.{Within}
+use Rattle.integers.proofs.Difference.{diff, ints, known, sum, scaled}
+use Rattle.integers.proofs.Bounds.{within-zero, within-add, within-mul, within-parts}
+use Rattle.state.specs.Fixed.{R}
+use Rattle.state.specs.Models.{trendOf, validModel, dampingOk}
+use Rattle.state.specs.States.{check}
+use Rattle.state.specs.declared.State.{State}
+use Rattle.state.proofs.Tests.{both, model-law}
+use Rattle.state.proofs.Rounding.{R-error, R-whole, R-none}
+use Rattle.state.proofs.Passing.{passed, bounded}
+use Rattle.ets.specs.Forecasts.{trendAt, trendLine, seasonAt, forecastOf}
+use Rattle.drift.specs.ExactForecast.{exactTrendAt, exactLine, exactForecastOf, ForecastErrors}
+
+-- ---- with damping: 2 |dj − exact| ≤ j, and 4 |sum − exact| ≤ h (h + 1)
+trend-zero : (d : ℤ) → pos 2 *ℤ (pos 1 *ℤ d -ℤ d) ≡ pos 0
+trend-zero d = rw (known d) (simp diff (omega arith))
+
+trend-next : (f p : ℕ) (e d n : ℤ) → pos 2 *ℤ (pos (65536 * p) *ℤ e -ℤ pos f *ℤ n) ≡ pos p *ℤ (pos 2 *ℤ (pos 65536 *ℤ e -ℤ pos f *ℤ d)) +ℤ pos f *ℤ (pos 2 *ℤ (pos p *ℤ d -ℤ n))
+trend-next f p e d n = rw (known e, known d, known n) (simp diff (omega arith))
+
+trend-limit : (k p : ℕ) → p * 65536 + 65536 * (k * p) ≡ suc k * (65536 * p)
+trend-limit k p = omega arith
+
+trend-error : (F : ℕ) (b : ℤ) → F ≤ 65536 → (j : ℕ) → Within (j * 65536 ^ j) (pos 2 *ℤ (pos (65536 ^ j) *ℤ trendAt F b j -ℤ exactTrendAt F b j))
+unfolding trendAt exactTrendAt
+trend-error F b h zero = rw (trend-zero b) (within-zero (0 * 1))
+trend-error F b h (suc j) =
+    rw (pow-succ' 65536 j, trend-next F (65536 ^ j) (R (pos F *ℤ trendAt F b j)) (trendAt F b j) (exactTrendAt F b j))
+    (rw (trend-limit j (65536 ^ j)) at (within-add (within-mul (le-refl (65536 ^ j)) (R-error (pos F *ℤ trendAt F b j))) (within-mul h (trend-error F b h j))))
+
+line-zero : (l : ℤ) → pos 4 *ℤ (pos 1 *ℤ l -ℤ l) ≡ pos 0
+line-zero l = rw (known l) (simp diff (omega arith))
+
+line-next : (p : ℕ) (s t d n : ℤ) → pos 4 *ℤ (pos (65536 * p) *ℤ (s +ℤ d) -ℤ (pos 65536 *ℤ t +ℤ n)) ≡ pos 65536 *ℤ (pos 4 *ℤ (pos p *ℤ s -ℤ t)) +ℤ pos 2 *ℤ (pos 2 *ℤ (pos (65536 * p) *ℤ d -ℤ n))
+line-next p s t d n = rw (known s, known t, known d, known n) (simp diff (omega arith))
+
+line-limit : (k p : ℕ) → 65536 * (k * suc k * p) + 2 * (suc k * (65536 * p)) ≡ suc k * suc (suc k) * (65536 * p)
+line-limit k p = omega arith
+
+line-error : (s : State) → s .phi ≤ 65536 → (h : ℕ) → Within (h * suc h * 65536 ^ h) (pos 4 *ℤ (pos (65536 ^ h) *ℤ trendLine s h -ℤ exactLine s h))
+unfolding trendLine exactLine
+line-error s f zero = rw (line-zero (s .level)) (within-zero (0 * 1 * 1))
+line-error s f (suc h) =
+    rw (pow-succ' 65536 h, line-next (65536 ^ h) (trendLine s h) (exactLine s h) (trendAt (s .phi) (s .trend) (suc h)) (exactTrendAt (s .phi) (s .trend) (suc h)))
+    (rw (line-limit h (65536 ^ h)) at (within-add (within-mul (le-refl 65536) (line-error s f h)) (within-mul (le-refl 2) (rw (pow-succ' 65536 h) at (trend-error (s .phi) (s .trend) f (suc h))))))
+
+-- ---- without trend, and with a straight one
+none-added : (z d : ℤ) → d ≡ pos 0 → z +ℤ d ≡ z
+none-added z d h = omega (ints, sum z d)
+
+pub flat-line : (s : State) → s .phi ≡ 0 → (h : ℕ) → trendLine s h ≡ s .level
+unfolding trendLine trendAt
+flat-line s e zero = refl
+flat-line s e (suc h) =
+    none-added (trendLine s h) (trendAt (s .phi) (s .trend) (suc h)) (ap (λ (F : ℕ). trendAt F (s .trend) (suc h)) e ∙ R-none (trendAt 0 (s .trend) h))
+    ∙ flat-line s e h
+
+straight-trend : (b : ℤ) (j : ℕ) → trendAt 65536 b j ≡ b
+unfolding trendAt
+straight-trend b zero = refl
+straight-trend b (suc j) = R-whole (trendAt 65536 b j) ∙ straight-trend b j
+
+one-more : (h : ℕ) (l b : ℤ) → l +ℤ pos h *ℤ b +ℤ b ≡ l +ℤ pos (suc h) *ℤ b
+one-more h l b = rw (known l, known b) (simp diff (omega arith))
+
+straight-line : (s : State) → s .phi ≡ 65536 → (h : ℕ) → trendLine s h ≡ s .level +ℤ pos h *ℤ s .trend
+unfolding trendLine
+straight-line s e zero = sym (none-added (s .level) (pos 0 *ℤ s .trend) (zero-*ℤ (s .trend)))
+straight-line s e (suc h) =
+    rw (straight-line s e h, ap (λ (F : ℕ). trendAt F (s .trend) (suc h)) e, straight-trend (s .trend) (suc h))
+    (one-more h (s .level) (s .trend))
+
+-- ---- a factor that rounds nothing
+abbrev Whole : ℕ → Type 0
+Whole F = (z : ℤ) → pos 65536 *ℤ R (pos F *ℤ z) ≡ pos F *ℤ z
+
+once : (x : ℤ) → pos 1 *ℤ x ≡ x
+once x = rw (known x) (simp diff (omega arith))
+
+times-assoc : (p : ℕ) (x : ℤ) → pos (65536 * p) *ℤ x ≡ pos p *ℤ (pos 65536 *ℤ x)
+times-assoc p x = rw (known x) (simp diff (omega arith))
+
+times-swap : (p f : ℕ) (x : ℤ) → pos p *ℤ (pos f *ℤ x) ≡ pos f *ℤ (pos p *ℤ x)
+times-swap p f x = rw (known x) (simp diff (omega arith))
+
+whole-trend : (F : ℕ) (b : ℤ) → Whole F → (j : ℕ) → pos (65536 ^ j) *ℤ trendAt F b j ≡ exactTrendAt F b j
+unfolding trendAt exactTrendAt
+whole-trend F b w zero = once b
+whole-trend F b w (suc j) =
+    rw (pow-succ' 65536 j, times-assoc (65536 ^ j) (R (pos F *ℤ trendAt F b j)), w (trendAt F b j), times-swap (65536 ^ j) F (trendAt F b j), whole-trend F b w j)
+
+line-whole : (p : ℕ) (s d : ℤ) → pos (65536 * p) *ℤ (s +ℤ d) ≡ pos 65536 *ℤ (pos p *ℤ s) +ℤ pos (65536 * p) *ℤ d
+line-whole p s d = rw (known s, known d) (simp diff (omega arith))
+
+whole-line : (s : State) → Whole (s .phi) → (h : ℕ) → pos (65536 ^ h) *ℤ trendLine s h ≡ exactLine s h
+unfolding trendLine exactLine
+whole-line s w zero = once (s .level)
+whole-line s w (suc h) =
+    rw (pow-succ' 65536 h, line-whole (65536 ^ h) (trendLine s h) (trendAt (s .phi) (s .trend) (suc h)), whole-line s w h)
+    (ap (λ (z : ℤ). pos 65536 *ℤ exactLine s h +ℤ z) (ap (λ (p : ℕ). pos p *ℤ trendAt (s .phi) (s .trend) (suc h)) (sym (pow-succ' 65536 h)) ∙ whole-trend (s .phi) (s .trend) w (suc h)))
+
+-- ---- which factor a model without damping has
+no-third : (b : ℕ) → validModel b ≡ true → trendOf b ≡ 3 → ⊥
+no-third b h e =
+    let t = both (eqb (b / 8) 0) (not (eqb (b % 4) 3)) (model-law b ∙ h) in
+    eqb-false (b % 4) 3 (not-true (eqb (b % 4) 3) (t .1)) e
+
+undamped-phi : (t F : ℕ) → t < 4 → (t ≡ 3 → ⊥) → (t ≡ 2 → ⊥) → dampingOk t F ≡ true → Whole F
+undamped-phi zero F l h k d = λ z. rw (eqb-true F 0 d, R-none z, zero-*ℤ z)
+undamped-phi (suc zero) F l h k d = λ z. rw (eqb-true F 65536 d) (ap (λ (x : ℤ). pos 65536 *ℤ x) (R-whole z))
+undamped-phi (suc (suc t)) F l h k d = absurd (omega arith)
+
+-- ---- the season's value is added on both sides
+with-season : (p : ℕ) (t x v : ℤ) → pos p *ℤ (t +ℤ v) -ℤ (x +ℤ pos p *ℤ v) ≡ pos p *ℤ t -ℤ x
+with-season p t x v = rw (known t, known x, known v) (simp diff (omega arith))
+
+spread : (p : ℕ) (t v : ℤ) → pos p *ℤ (t +ℤ v) ≡ pos p *ℤ t +ℤ pos p *ℤ v
+spread p t v = rw (known t, known v) (simp diff (omega arith))
+
+absolute : (n : ℕ) (z : ℤ) → Within n (pos 4 *ℤ z) → 4 * natAbs z ≤ n
+absolute n (pos a) w = omega (arith, within-parts w, scaled 4 (pos a))
+absolute n (negsuc a) w = omega (arith, within-parts w, scaled 4 (negsuc a))
+
+module _ (s : State) (ok : check s ≡ 0) (h : ℕ) where
+  damped : 4 * natAbs (pos (65536 ^ h) *ℤ forecastOf s h -ℤ exactForecastOf s h) ≤ h * (h + 1) * 65536 ^ h
+  unfolding forecastOf exactForecastOf
+  damped =
+      rw (with-season (65536 ^ h) (trendLine s h) (exactLine s h) (seasonAt s h), add-one h)
+      (absolute (h * suc h * 65536 ^ h) (pos (65536 ^ h) *ℤ trendLine s h -ℤ exactLine s h) (line-error s (bounded s ok .phi) h))
+
+  undamped : (trendOf (s .model) ≡ 2 → ⊥) → pos (65536 ^ h) *ℤ forecastOf s h ≡ exactForecastOf s h
+  unfolding forecastOf exactForecastOf
+  undamped k =
+      spread (65536 ^ h) (trendLine s h) (seasonAt s h)
+      ∙ ap (λ (z : ℤ). z +ℤ pos (65536 ^ h) *ℤ seasonAt s h) (whole-line s (undamped-phi (trendOf (s .model)) (s .phi) (omega arith) (no-third (s .model) (passed s ok .model)) k (passed s ok .phi)) h)
+
+  level : trendOf (s .model) ≡ 0 → forecastOf s h ≡ s .level +ℤ seasonAt s h
+  unfolding forecastOf
+  level e = ap (λ (z : ℤ). z +ℤ seasonAt s h) (flat-line s (eqb-true (s .phi) 0 (rw e at (passed s ok .phi))) h)
+
+  straight : trendOf (s .model) ≡ 1 → forecastOf s h ≡ s .level +ℤ pos h *ℤ s .trend +ℤ seasonAt s h
+  unfolding forecastOf
+  straight e = ap (λ (z : ℤ). z +ℤ seasonAt s h) (straight-line s (eqb-true (s .phi) 65536 (rw e at (passed s ok .phi))) h)
+
+pub forecast-errors : ForecastErrors
+forecast-errors s ok h = record { level = level s ok h; straight = straight s ok h; undamped = undamped s ok h; damped = damped s ok h }

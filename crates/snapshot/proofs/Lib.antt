@@ -1,0 +1,5 @@
+pub mod ByteLaws
+pub mod Accepting
+pub mod RoundTrip
+pub mod Signed
+pub mod Table

@@ -1,0 +1,74 @@
+-- `snapshot::reading::position_code` meets its contract: each return goes by the tests that led there.
+use Prim.Native.Nat.{_+_, _*_, _≤_}
+use mathlib.Core.Path.{refl, sym, _∙_}
+use native.Mathlib.Omega.{arith}
+use lib.Dec.{lit≤}
+use lib.ListN.{length}
+use borrow.Author.Tests.{eq-eqb, ne-eqb}
+use Rattle.snapshot.specs.Snapshots.{isCommand, positionCode}
+use Rattle.snapshot.proofs.Accepting.{due}
+use borrow.Author.Needs.{needs}
+use Rattle.snapshot.proofs.reading.position_code.Statement.{statement}
+use Rattle.snapshot.proofs.reading.position_code.Tie as tie
+
+-- the command is there, whole
+room : (c : tie.Else1) → 36 + 10 * c .before .before .before .args .m + 10 ≤ length (c .before .before .before .args .s .now)
+room c = due _ _ 0x13 10 (sym (c .before .due .ensures) ∙ c .if1 .left) .room
+
+mul-at : tie.Need-mul-at
+mul-at c = search needs
+
+add-due : tie.Need-add-due
+add-due c = search needs
+
+due-requires : tie.Need-due-requires
+unfolding isCommand
+due-requires c κs = refl
+
+returns : tie.Need-returns
+unfolding positionCode
+returns c = rw (← (c .before .due .ensures), ne-eqb _ _ (c .if1 .taken))
+
+add-index-ok : tie.Need-add-index-ok
+add-index-ok c = search needs
+
+shared-slice-read-index-ok : tie.Need-shared-slice-read-index-ok
+shared-slice-read-index-ok c = omega (arith, room (c .before))
+
+index-ok-requires : tie.Need-index-ok-requires
+index-ok-requires c κs = search needs
+
+add-read-le : tie.Need-add-read-le
+add-read-le c = search needs
+
+read-le-requires : tie.Need-read-le-requires
+read-le-requires c κs = (lit≤ tt, omega (arith, room (c .before .before)))
+
+count-ok-requires : tie.Need-count-ok-requires
+count-ok-requires c κs = search needs
+
+reject-unless-requires : tie.Need-reject-unless-requires
+reject-unless-requires c κs = search needs
+
+returns-2 : tie.Need-returns-2
+unfolding positionCode
+returns-2 c =
+    rw (← (c .before .before .before .before .before .before .due .ensures), eq-eqb _ _ (c .before .before .before .before .before .if1 .left), ← (c .before .before .read-le .ensures .0), ← (c .before .before .before .index-ok .ensures), ← (c .before .count-ok .ensures))
+    (c .reject-unless .ensures)
+
+pub position-code-spec : {M : Type 1} → statement M
+position-code-spec =
+    tie.close
+    (tie.spec
+    mul-at
+    add-due
+    due-requires
+    returns
+    add-index-ok
+    shared-slice-read-index-ok
+    index-ok-requires
+    add-read-le
+    read-le-requires
+    count-ok-requires
+    reject-unless-requires
+    returns-2)

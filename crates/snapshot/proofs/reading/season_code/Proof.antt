@@ -1,0 +1,81 @@
+-- `snapshot::reading::season_code` meets its contract: each return goes by the tests that led there.
+use Prim.Native.Nat.{_+_, _*_, _≤_}
+use mathlib.Core.Path.{_≡_, refl, sym, ap, _∙_}
+use native.Mathlib.Omega.{arith}
+use lib.ListN.{length}
+use borrow.Author.Tests.{eq-eqb, ne-eqb}
+use mir.Syntax.{w64}
+use mir.ValLaws.{toZ-ofZ}
+use Rattle.snapshot.specs.Snapshots.{isCommand, seasonCode}
+use Rattle.snapshot.proofs.Accepting.{due}
+use borrow.Author.Needs.{needs}
+use Rattle.snapshot.proofs.reading.season_code.Statement.{statement}
+use Rattle.snapshot.proofs.reading.season_code.Tie as tie
+
+-- the command is there, whole
+room : (c : tie.Else1) → 36 + 10 * c .before .before .before .args .k + 10 ≤ length (c .before .before .before .args .s .now)
+room c = due _ _ 0x12 10 (sym (c .before .due .ensures) ∙ c .if1 .left) .room
+
+mul-at : tie.Need-mul-at
+mul-at c = search needs
+
+add-due : tie.Need-add-due
+add-due c = search needs
+
+due-requires : tie.Need-due-requires
+unfolding isCommand
+due-requires c κs = refl
+
+returns : tie.Need-returns
+unfolding seasonCode
+returns c = rw (← (c .before .due .ensures), ne-eqb _ _ (c .if1 .taken))
+
+add-if2 : tie.Need-add-if2
+add-if2 c = search needs
+
+shared-slice-read-if2 : tie.Need-shared-slice-read-if2
+shared-slice-read-if2 c = omega (arith, room (c .before))
+
+cast-if2 : tie.Need-cast-if2
+cast-if2 c = omega (arith, c .shared-slice-known2 .given (37 + 10 * c .before .before .before .before .args .k))
+
+returns-2 : tie.Need-returns-2
+unfolding seasonCode
+returns-2 c = rw (← (c .before .before .before .due .ensures), eq-eqb _ _ (c .before .before .if1 .left), ne-eqb _ _ (c .if2 .taken))
+
+add-read-i64 : tie.Need-add-read-i64
+add-read-i64 c = search needs
+
+read-i64-requires : tie.Need-read-i64-requires
+read-i64-requires c κs = omega (arith, room (c .before .before))
+
+in-range-requires : tie.Need-in-range-requires
+in-range-requires c κs = search needs
+
+reject-unless-requires : tie.Need-reject-unless-requires
+reject-unless-requires c κs = search needs
+
+returns-3 : tie.Need-returns-3
+unfolding seasonCode
+returns-3 c =
+    let v = toZ-ofZ w64 _ (search needs) ∙ c .before .before .read-i64 .ensures in
+    rw (← (c .before .before .before .before .before .before .due .ensures), eq-eqb _ _ (c .before .before .before .before .before .if1 .left), eq-eqb _ _ (c .before .before .before .if2 .left), ← v, ← (c .before .in-range .ensures))
+    (c .reject-unless .ensures)
+
+pub season-code-spec : {M : Type 1} → statement M
+season-code-spec =
+    tie.close
+    (tie.spec
+    mul-at
+    add-due
+    due-requires
+    returns
+    add-if2
+    shared-slice-read-if2
+    cast-if2
+    returns-2
+    add-read-i64
+    read-i64-requires
+    in-range-requires
+    reject-unless-requires
+    returns-3)

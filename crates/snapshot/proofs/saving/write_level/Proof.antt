@@ -1,0 +1,41 @@
+-- `snapshot::saving::write_level` meets its contract: stores one after the other.
+use mathlib.Core.Path.{refl}
+use mathlib.Core.List.{[], _∷_, _++_}
+use mir.Syntax.{w64}
+use mir.Val.{ofZ}
+use mir.ValLaws.{toZ-ofZ}
+use Rattle.snapshot.specs.Bytes.{signedBytes}
+use Rattle.snapshot.proofs.ByteLaws.{length-toBytes, follow}
+use borrow.Author.Needs.{needs}
+use Rattle.snapshot.proofs.saving.write_level.Statement.{statement}
+use Rattle.snapshot.proofs.saving.write_level.Tie as tie
+
+write-byte-requires : tie.Need-write-byte-requires
+write-byte-requires c κs = search needs
+
+write-i64-requires : tie.Need-write-i64-requires
+write-i64-requires c κs = search needs
+
+write-i64-requires-2 : tie.Need-write-i64-requires-2
+write-i64-requires-2 c κs = search needs
+
+same-length : tie.Need-same-length
+same-length c = search needs
+
+returns : tie.Need-returns
+returns c =
+    let s = c .before .before .before .before .before .before .before .before .before .before .before .before .before in
+    let w = c .before .before .before .before .before .before .before .before .before .before .write-byte in
+    let v = c .before .before .before .before .before .before .write-i64 in
+    let u = c .before .before .write-i642 in
+    let L = signedBytes (s .args .level) in
+    let T = signedBytes (s .args .trend) in
+    let l = rw (toZ-ofZ w64 (s .args .level) (s .fits .level)) at (v .ensures) in
+    let b = rw (toZ-ofZ w64 (s .args .trend) (s .fits .trend)) at (u .ensures) in
+    follow (s .args .d .now) 19 (0x11 ∷ []) (L ++ T) (w .last .0) (u .last .0) 20 (w .ensures)
+    (follow (w .last .0) 20 L T (v .last .0) (u .last .0) 28 l b (rw (length-toBytes 8 (ofZ w64 (s .args .level))))) refl
+
+pub write-level-spec : {M : Type 1} → statement M
+write-level-spec =
+    tie.close
+    (tie.spec write-byte-requires write-i64-requires write-i64-requires-2 same-length returns)

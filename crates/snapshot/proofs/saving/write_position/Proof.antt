@@ -1,0 +1,38 @@
+-- `snapshot::saving::write_position` meets its contract: stores one after the other.
+use native.Mathlib.Numerals.{add-one, add-two}
+use borrow.Author.Needs.{needs}
+use Rattle.snapshot.proofs.saving.write_position.Statement.{statement}
+use Rattle.snapshot.proofs.saving.write_position.Tie as tie
+
+write-byte-requires : tie.Need-write-byte-requires
+write-byte-requires c κs = search needs
+
+add-write-byte : tie.Need-add-write-byte
+add-write-byte c = search needs
+
+write-byte-requires-2 : tie.Need-write-byte-requires-2
+write-byte-requires-2 c κs = search needs
+
+add-write-le : tie.Need-add-write-le
+add-write-le c = search needs
+
+write-le-requires : tie.Need-write-le-requires
+write-le-requires c κs = search needs
+
+same-length : tie.Need-same-length
+same-length c = search needs
+
+returns : tie.Need-returns
+returns c = rw (c .before .before .before .before .before .before .write-byte2 .ensures, c .before .before .before .before .before .before .before .before .before .before .write-byte .ensures, add-one, add-two) at (c .before .before .write-le .ensures)
+
+pub write-position-spec : {M : Type 1} → statement M
+write-position-spec =
+    tie.close
+    (tie.spec
+    write-byte-requires
+    add-write-byte
+    write-byte-requires-2
+    add-write-le
+    write-le-requires
+    same-length
+    returns)
