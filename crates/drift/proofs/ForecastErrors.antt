@@ -47,22 +47,22 @@ line-next p s t d n = rw (known s, known t, known d, known n) (simp diff (omega 
 line-limit : (k p : ℕ) → 65536 * (k * suc k * p) + 2 * (suc k * (65536 * p)) ≡ suc k * suc (suc k) * (65536 * p)
 line-limit k p = omega arith
 
-line-error : (s : State) → s .phi ≤ 65536 → (h : ℕ) → Within (h * suc h * 65536 ^ h) (pos 4 *ℤ (pos (65536 ^ h) *ℤ trendLine s h -ℤ exactLine s h))
+line-error : (s : State) → s .phi ≤ 65536 → (h : ℕ) → Within (h * suc h * 65536 ^ h) (pos 4 *ℤ (pos (65536 ^ h) *ℤ trendLine (s .level) (s .phi) (s .trend) h -ℤ exactLine s h))
 unfolding trendLine exactLine
 line-error s f zero = rw (line-zero (s .level)) (within-zero (0 * 1 * 1))
 line-error s f (suc h) =
-    rw (pow-succ' 65536 h, line-next (65536 ^ h) (trendLine s h) (exactLine s h) (trendAt (s .phi) (s .trend) (suc h)) (exactTrendAt (s .phi) (s .trend) (suc h)))
+    rw (pow-succ' 65536 h, line-next (65536 ^ h) (trendLine (s .level) (s .phi) (s .trend) h) (exactLine s h) (trendAt (s .phi) (s .trend) (suc h)) (exactTrendAt (s .phi) (s .trend) (suc h)))
     (rw (line-limit h (65536 ^ h)) at (within-add (within-mul (le-refl 65536) (line-error s f h)) (within-mul (le-refl 2) (rw (pow-succ' 65536 h) at (trend-error (s .phi) (s .trend) f (suc h))))))
 
 -- ---- without trend, and with a straight one
 none-added : (z d : ℤ) → d ≡ pos 0 → z +ℤ d ≡ z
 none-added z d h = omega (ints, sum z d)
 
-pub flat-line : (s : State) → s .phi ≡ 0 → (h : ℕ) → trendLine s h ≡ s .level
+pub flat-line : (s : State) → s .phi ≡ 0 → (h : ℕ) → trendLine (s .level) (s .phi) (s .trend) h ≡ s .level
 unfolding trendLine trendAt
 flat-line s e zero = refl
 flat-line s e (suc h) =
-    none-added (trendLine s h) (trendAt (s .phi) (s .trend) (suc h)) (ap (λ (F : ℕ). trendAt F (s .trend) (suc h)) e ∙ R-none (trendAt 0 (s .trend) h))
+    none-added (trendLine (s .level) (s .phi) (s .trend) h) (trendAt (s .phi) (s .trend) (suc h)) (ap (λ (F : ℕ). trendAt F (s .trend) (suc h)) e ∙ R-none (trendAt 0 (s .trend) h))
     ∙ flat-line s e h
 
 straight-trend : (b : ℤ) (j : ℕ) → trendAt 65536 b j ≡ b
@@ -73,7 +73,7 @@ straight-trend b (suc j) = R-whole (trendAt 65536 b j) ∙ straight-trend b j
 one-more : (h : ℕ) (l b : ℤ) → l +ℤ pos h *ℤ b +ℤ b ≡ l +ℤ pos (suc h) *ℤ b
 one-more h l b = rw (known l, known b) (simp diff (omega arith))
 
-straight-line : (s : State) → s .phi ≡ 65536 → (h : ℕ) → trendLine s h ≡ s .level +ℤ pos h *ℤ s .trend
+straight-line : (s : State) → s .phi ≡ 65536 → (h : ℕ) → trendLine (s .level) (s .phi) (s .trend) h ≡ s .level +ℤ pos h *ℤ s .trend
 unfolding trendLine
 straight-line s e zero = sym (none-added (s .level) (pos 0 *ℤ s .trend) (zero-*ℤ (s .trend)))
 straight-line s e (suc h) =
@@ -102,11 +102,11 @@ whole-trend F b w (suc j) =
 line-whole : (p : ℕ) (s d : ℤ) → pos (65536 * p) *ℤ (s +ℤ d) ≡ pos 65536 *ℤ (pos p *ℤ s) +ℤ pos (65536 * p) *ℤ d
 line-whole p s d = rw (known s, known d) (simp diff (omega arith))
 
-whole-line : (s : State) → Whole (s .phi) → (h : ℕ) → pos (65536 ^ h) *ℤ trendLine s h ≡ exactLine s h
+whole-line : (s : State) → Whole (s .phi) → (h : ℕ) → pos (65536 ^ h) *ℤ trendLine (s .level) (s .phi) (s .trend) h ≡ exactLine s h
 unfolding trendLine exactLine
 whole-line s w zero = once (s .level)
 whole-line s w (suc h) =
-    rw (pow-succ' 65536 h, line-whole (65536 ^ h) (trendLine s h) (trendAt (s .phi) (s .trend) (suc h)), whole-line s w h)
+    rw (pow-succ' 65536 h, line-whole (65536 ^ h) (trendLine (s .level) (s .phi) (s .trend) h) (trendAt (s .phi) (s .trend) (suc h)), whole-line s w h)
     (ap (λ (z : ℤ). pos 65536 *ℤ exactLine s h +ℤ z) (ap (λ (p : ℕ). pos p *ℤ trendAt (s .phi) (s .trend) (suc h)) (sym (pow-succ' 65536 h)) ∙ whole-trend (s .phi) (s .trend) w (suc h)))
 
 -- ---- which factor a model without damping has
@@ -135,13 +135,13 @@ module _ (s : State) (ok : check s ≡ 0) (h : ℕ) where
   damped : 4 * natAbs (pos (65536 ^ h) *ℤ forecastOf s h -ℤ exactForecastOf s h) ≤ h * (h + 1) * 65536 ^ h
   unfolding forecastOf exactForecastOf
   damped =
-      rw (with-season (65536 ^ h) (trendLine s h) (exactLine s h) (seasonAt s h), add-one h)
-      (absolute (h * suc h * 65536 ^ h) (pos (65536 ^ h) *ℤ trendLine s h -ℤ exactLine s h) (line-error s (bounded s ok .phi) h))
+      rw (with-season (65536 ^ h) (trendLine (s .level) (s .phi) (s .trend) h) (exactLine s h) (seasonAt s h), add-one h)
+      (absolute (h * suc h * 65536 ^ h) (pos (65536 ^ h) *ℤ trendLine (s .level) (s .phi) (s .trend) h -ℤ exactLine s h) (line-error s (bounded s ok .phi) h))
 
   undamped : (trendOf (s .model) ≡ 2 → ⊥) → pos (65536 ^ h) *ℤ forecastOf s h ≡ exactForecastOf s h
   unfolding forecastOf exactForecastOf
   undamped k =
-      spread (65536 ^ h) (trendLine s h) (seasonAt s h)
+      spread (65536 ^ h) (trendLine (s .level) (s .phi) (s .trend) h) (seasonAt s h)
       ∙ ap (λ (z : ℤ). z +ℤ pos (65536 ^ h) *ℤ seasonAt s h) (whole-line s (undamped-phi (trendOf (s .model)) (s .phi) (omega arith) (no-third (s .model) (passed s ok .model)) k (passed s ok .phi)) h)
 
   level : trendOf (s .model) ≡ 0 → forecastOf s h ≡ s .level +ℤ seasonAt s h

@@ -4,7 +4,7 @@ use mathlib.Core.Path.{_≡_, refl, sym, ap, _∙_}
 use mathlib.Core.Bool.{Bool, true, false, not, cond, _&&_}
 use mathlib.Core.List.{List, [], _∷_, _++_}
 use native.Mathlib.Decide.{decLe}
-use native.Mathlib.Nat.{suc-mod, mod-lt, mod-eq-of-lt, mod-self}
+use native.Mathlib.Nat.{not-suc-le-zero, suc-mod, mod-lt, mod-eq-of-lt, mod-self}
 use native.Mathlib.Omega.{arith}
 use lib.Dec.{eqb, ltb, leb}
 use lib.IntN.{ℤ, pos, _+ℤ_, _*ℤ_}
@@ -14,7 +14,7 @@ use mir.Val.{SFits, toZ, ofZ}
 use mir.ValLaws.{toZ-ofZ}
 use lib.ListN.{length, getD, set, drop, length-append}
 use lib.Seq.{drop-cons, set-at, append-snoc}
-use borrow.Author.Tests.{lt-ltb, le-ltb, leb-true, eq-eqb, ne-eqb}
+use borrow.Author.Tests.{lt-ltb, le-ltb, le-leb, leb-true}
 use Rattle.integers.specs.Bounds.{Within}
 use Rattle.integers.proofs.Difference.{back}
 use Rattle.integers.proofs.Bounds.{within-le, within-add, within-fits}
@@ -24,9 +24,9 @@ use Rattle.state.specs.States.{check}
 use Rattle.state.specs.declared.State.{State}
 use Rattle.state.proofs.Tests.{both, then-zero, unless-zero}
 use Rattle.state.proofs.Rounding.{R-gain}
-use Rattle.state.proofs.Passing.{Bounded, bounded, no-season, with-season}
+use Rattle.state.proofs.Passing.{bounded, range-in, no-season, with-season}
 use Rattle.ets.specs.Steps.{nextIndex}
-use Rattle.ets.specs.Forecasts.{trendAt, trendLine, seasonAt, horizonOk, forecastCode, forecastOf, forecastList}
+use Rattle.ets.specs.Forecasts.{trendAt, trendLine, seasonAt, horizonOk, forecastCode, forecastFromCode, forecastOf, forecastList}
 use Rattle.ets.proofs.StepLaws.{first}
 
 -- the horizon of a forecast that is not rejected
@@ -50,10 +50,10 @@ unfolding trendAt
 trend-within F h w zero = w
 trend-within F h w (suc j) = R-gain h (trend-within F h w j)
 
-pub line-within : (s : State) → Bounded s → (h : ℕ) → Within (1099511627776 + 1099511627776 * h) (trendLine s h)
+pub line-within : {l b : ℤ} (F : ℕ) → F ≤ 65536 → Within 1099511627776 l → Within 1099511627776 b → (h : ℕ) → Within (1099511627776 + 1099511627776 * h) (trendLine l F b h)
 unfolding trendLine
-line-within s b zero = b .level
-line-within s b (suc h) = within-le _ (omega arith) (within-add (line-within s b h) (trend-within (s .phi) (b .phi) (b .trend) (suc h)))
+line-within F f l b zero = l
+line-within F f l b (suc h) = within-le _ (omega arith) (within-add (line-within F f l b h) (trend-within F f b (suc h)))
 
 -- ---- the seasonal index i steps on
 unfoldable pub ahead : ℕ → ℕ → ℕ → ℕ
@@ -127,22 +127,33 @@ list-more s i cells h =
     (set-at (forecastList s i) (getD cells i (pos 0)) (drop (suc i) cells) (forecastOf s (suc i)) i (list-length s i)
     ∙ sym (append-snoc (forecastList s i) (forecastOf s (suc i)) (drop (suc i) cells)))
 
--- ---- a turn of the loops: d is the trend and l the line of i steps, and r is R(F × d)
-pub record Turn (s : State) (i : ℕ) (l r : ℤ) : Type 0 where
-  pub trend : toZ w64 (ofZ w64 r) ≡ trendAt (s .phi) (s .trend) (suc i)
-  pub fits : SFits w64 (l +ℤ toZ w64 (ofZ w64 r))
-  pub line : toZ w64 (ofZ w64 (l +ℤ toZ w64 (ofZ w64 r))) ≡ trendLine s (suc i)
+-- ---- a turn of the loops: d is the trend and l the line of i steps from numbers within their bounds, and r is R(F × d)
+pub record Turn (l : ℤ) (F : ℕ) (b : ℤ) (i : ℕ) (line r : ℤ) : Type 0 where
+  pub trend : toZ w64 (ofZ w64 r) ≡ trendAt F b (suc i)
+  pub fits : SFits w64 (line +ℤ toZ w64 (ofZ w64 r))
+  pub line-is : toZ w64 (ofZ w64 (line +ℤ toZ w64 (ofZ w64 r))) ≡ trendLine l F b (suc i)
 
-pub line-bound : (s : State) → Bounded s → (h : ℕ) → h ≤ 512 → Within 564049465049088 (trendLine s h)
-line-bound s b h k = within-le 564049465049088 (omega arith) (line-within s b h)
+module _ (l : ℤ) (F : ℕ) (b : ℤ) (f : F ≤ 65536) (wl : Within 1099511627776 l) (wb : Within 1099511627776 b) where
+  pub line-bound : (h : ℕ) → h ≤ 512 → Within 564049465049088 (trendLine l F b h)
+  line-bound h k = within-le 564049465049088 (omega arith) (line-within F f wl wb h)
 
-pub trend-bound : (s : State) → Bounded s → (i : ℕ) → Within 8796093022208 (trendAt (s .phi) (s .trend) i)
-trend-bound s b i = within-le 8796093022208 (omega arith) (trend-within (s .phi) (b .phi) (b .trend) i)
+  pub trend-bound : (i : ℕ) → Within 8796093022208 (trendAt F b i)
+  trend-bound i = within-le 8796093022208 (omega arith) (trend-within F f wb i)
 
-pub turn : (s : State) → Bounded s → (i : ℕ) → i < 512 → (d l r : ℤ) → d ≡ trendAt (s .phi) (s .trend) i → l ≡ trendLine s i
-    → mag r < 2 ^ 63 → r ≡ R (pos (s .phi) *ℤ d) → Turn s i l r
-unfolding trendAt trendLine
-turn s b i h d l r ed el f er =
-    let t : toZ w64 (ofZ w64 r) ≡ trendAt (s .phi) (s .trend) (suc i) = back w64 r f ∙ er ∙ rw ed in
-    let w : SFits w64 (trendLine s (suc i)) = within-fits w64 (line-bound s b (suc i) (omega arith)) (omega arith) in
-    record { trend = t; fits = rw (t, el) w; line = rw (t, el) (toZ-ofZ w64 (trendLine s (suc i)) w) }
+  pub turn : (i : ℕ) → i < 512 → (d line r : ℤ) → d ≡ trendAt F b i → line ≡ trendLine l F b i → mag r < 2 ^ 63 → r ≡ R (pos F *ℤ d) → Turn l F b i line r
+  unfolding trendAt trendLine
+  turn i h d line r ed el fr er =
+      let t : toZ w64 (ofZ w64 r) ≡ trendAt F b (suc i) = back w64 r fr ∙ er ∙ rw ed in
+      let w : SFits w64 (trendLine l F b (suc i)) = within-fits w64 (line-bound (suc i) (omega arith)) (omega arith) in
+      record { trend = t; fits = rw (t, el) w; line-is = rw (t, el) (toZ-ofZ w64 (trendLine l F b (suc i)) w) }
+
+-- ---- the forecast on the numbers of a state that passes its checks is the state's
+season-within : (s : State) → check s ≡ 0 → (h : ℕ) → 1 ≤ h → Within 1099511627776 (seasonAt s h)
+season-within s ok zero l = absurd (not-suc-le-zero l)
+season-within s ok (suc i) l = let b = bounded s ok in rw (season-ahead s ok i) (b .cells _ (ahead-small _ _ i (b .period) (b .index)))
+
+pub from-code : (s : State) → check s ≡ 0 → (h : ℕ) → 1 ≤ h → forecastFromCode (s .level) (s .phi) (s .trend) (seasonAt s h) h ≡ forecastCode s h
+unfolding forecastCode
+from-code s ok h l =
+    let b = bounded s ok in
+    rw (ok, le-leb _ _ (b .phi), range-in _ (b .level), range-in _ (b .trend), range-in _ (season-within s ok h l))

@@ -5,8 +5,8 @@ use mathlib.Core.List.{List, [], _∷_, _++_}
 use lib.Dec.{eqb, leb}
 use lib.IntN.{ℤ, pos, _+ℤ_, _*ℤ_}
 use lib.ListN.{length, drop, getD}
-use Rattle.state.specs.Rejections.{unless, _then_, outcome, answer, bad-horizon, short-buffer}
-use Rattle.state.specs.Fixed.{R}
+use Rattle.state.specs.Rejections.{unless, _then_, outcome, answer, bad-parameter, bad-value, bad-horizon, short-buffer}
+use Rattle.state.specs.Fixed.{R, inRange}
 use Rattle.state.specs.Models.{hasSeason}
 use Rattle.state.specs.States.{check}
 use Rattle.state.specs.declared.State.{State}
@@ -19,16 +19,16 @@ trendAt F b zero = b
 trendAt F b (suc j) = R (pos F *ℤ trendAt F b j)
 
 -- l, plus d1 to dh
-unfoldable pub trendLine : State → ℕ → ℤ
-trendLine s zero = s .level
-trendLine s (suc h) = trendLine s h +ℤ trendAt (s .phi) (s .trend) (suc h)
+unfoldable pub trendLine : ℤ → ℕ → ℤ → ℕ → ℤ
+trendLine l F b zero = l
+trendLine l F b (suc h) = trendLine l F b h +ℤ trendAt F b (suc h)
 
 -- with a season, its value at place (p + h − 1) modulo m
 unfoldable pub seasonAt : State → ℕ → ℤ
 seasonAt s h = cond (hasSeason (s .model)) (getD (s .seasonal) ((s .index + h - 1) % s .period) (pos 0)) (pos 0)
 
 unfoldable pub forecastOf : State → ℕ → ℤ
-forecastOf s h = trendLine s h +ℤ seasonAt s h
+forecastOf s h = trendLine (s .level) (s .phi) (s .trend) h +ℤ seasonAt s h
 
 -- the horizon h is 1 to 512
 abbrev pub horizonOk : ℕ → Bool
@@ -40,6 +40,16 @@ forecastCode s h = check s then unless (horizonOk h) bad-horizon
 
 unfoldable pub forecast : State → ℕ → Answer
 forecast s h = answer (forecastCode s h) (forecastOf s h)
+
+-- the same on numbers: l, F, b and the season's value for the horizon
+abbrev pub forecastFromCode : ℤ → ℕ → ℤ → ℤ → ℕ → ℕ
+forecastFromCode l F b s h =
+    unless (leb F 65536) bad-parameter
+    then unless (inRange l && inRange b && inRange s) bad-value
+    then unless (horizonOk h) bad-horizon
+
+unfoldable pub forecastFrom : ℤ → ℕ → ℤ → ℤ → ℕ → Answer
+forecastFrom l F b s h = answer (forecastFromCode l F b s h) (trendLine l F b h +ℤ s)
 
 -- the forecasts for the horizons 1 to h
 unfoldable pub forecastList : State → ℕ → List ℤ

@@ -1,12 +1,15 @@
 // Forecasts from a state by value: for one horizon, and for all of them into a lent buffer.
-use super::numbers::gain;
-use super::numbers::next_index;
+use super::arithmetic::gain;
+use super::arithmetic::next_index;
 use state::Answer;
 use state::BAD_HORIZON;
+use state::BAD_PARAMETER;
+use state::BAD_VALUE;
 use state::Outcome;
 use state::SHORT_BUFFER;
 use state::State;
 use state::checks::check;
+use state::checks::in_range;
 use state::models::season_of;
 ghost use mathlib.Core.Path.{_≡_};
 ghost use mathlib.Core.List.{_++_};
@@ -14,7 +17,7 @@ ghost use Prim.Native.Nat.{_≤_};
 ghost use lib.ListN.{length, drop};
 ghost use Rattle.integers.specs.Bounds.{Within};
 ghost use Rattle.state.specs.States.{check};
-ghost use Rattle.ets.specs.Forecasts.{horizonOk, trendLine, seasonAt, forecastCode, forecast, forecastList, forecasts, forecastCells};
+ghost use Rattle.ets.specs.Forecasts.{horizonOk, trendLine, seasonAt, forecastCode, forecast, forecastFromCode, forecastFrom, forecastList, forecasts, forecastCells};
 
 fn horizon_ok(h: u32) -> bool
     ensures { λ r. ⌜ r ≡ horizonOk h ⌝ }
@@ -34,15 +37,15 @@ pub fn forecast_code(s: State, h: u32) -> u8
 }
 
 // The level and the trends of h steps.
-fn trend_line(s: State, h: u32) -> i64
-    requires { ⌜ (check s ≡ 0) × (h ≤ 512) ⌝ }
-    ensures value { λ r. ⌜ r ≡ trendLine s h ⌝ }
+fn trend_line(level: i64, phi: u32, trend: i64, h: u32) -> i64
+    requires { ⌜ (phi ≤ 65536) × Within 1099511627776 level × Within 1099511627776 trend × (h ≤ 512) ⌝ }
+    ensures value { λ r. ⌜ r ≡ trendLine level phi trend h ⌝ }
     ensures bound { λ r. ⌜ Within 564049465049088 r ⌝ }
 {
-    let mut line = s.level;
-    let mut d = s.trend;
+    let mut line = level;
+    let mut d = trend;
     for j in 0..h {
-        d = gain(s.phi, d);
+        d = gain(phi, d);
         line = line + d;
     }
     line
@@ -70,7 +73,33 @@ pub fn forecast(s: State, h: u32) -> Answer
     if n != 0 {
         return Answer::Rejected(n);
     }
-    Answer::Accepted(trend_line(s, h) + season_at(s, h))
+    Answer::Accepted(trend_line(s.level, s.phi, s.trend, h) + season_at(s, h))
+}
+
+// What rejects a forecast on numbers, or 0.
+fn from_code(level: i64, phi: u32, trend: i64, season: i64, h: u32) -> u8
+    ensures { λ r. ⌜ r ≡ forecastFromCode level phi trend season h ⌝ }
+{
+    if phi <= 65536 {
+        if in_range(level) & in_range(trend) & in_range(season) {
+            if horizon_ok(h) { 0 } else { BAD_HORIZON }
+        } else {
+            BAD_VALUE
+        }
+    } else {
+        BAD_PARAMETER
+    }
+}
+
+// The forecast on numbers: the level, phi, the trend and the season value of the horizon.
+pub fn forecast_from(level: i64, phi: u32, trend: i64, season: i64, h: u32) -> Answer
+    ensures { λ r. ⌜ r ≡ forecastFrom level phi trend season h ⌝ }
+{
+    let n = from_code(level, phi, trend, season, h);
+    if n != 0 {
+        return Answer::Rejected(n);
+    }
+    Answer::Accepted(trend_line(level, phi, trend, h) + season)
 }
 
 // The forecasts for the horizons 1 to h: the trend and the seasonal index move on from one to the next.

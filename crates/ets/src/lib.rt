@@ -1,12 +1,34 @@
 // The recursion of Hyndman's ETS models on a state by value: document 01, "One step" and "Forecast and variance".
+mod arithmetic;
 pub mod batches;
 pub mod forecasts;
-mod numbers;
 pub mod steps;
+pub mod updates;
 
 use state::Answer;
 use state::Outcome;
 use state::State;
+
+// The numbers of a state that a reading moves and is moved by; the season value is the one at the seasonal index.
+pub struct Numbers {
+    pub alpha: u32,
+    pub beta: u32,
+    pub gamma: u32,
+    pub phi: u32,
+    pub level: i64,
+    pub trend: i64,
+    pub season: i64,
+    pub count: u64,
+}
+
+// What a reading makes of them. code is the rejection or 0.
+pub struct Update {
+    pub code: u8,
+    pub level: i64,
+    pub trend: i64,
+    pub season: i64,
+    pub residual: i64,
+}
 
 // The state that stands after a reading, and the residual (document 01's e) or the rejection.
 pub struct Stepped {

@@ -1,9 +1,9 @@
 // A reading and a missing reading on a state by value.
 use super::Missed;
 use super::Stepped;
-use super::numbers::Update;
-use super::numbers::next_index;
-use super::numbers::read;
+use super::Update;
+use super::arithmetic::next_index;
+use super::arithmetic::read;
 use state::Answer;
 use state::COUNT_FULL;
 use state::MAX_COUNT;

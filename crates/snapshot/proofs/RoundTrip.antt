@@ -37,7 +37,7 @@ pub length-level : (s : State) → length (levelBytes s) ≡ 17
 unfolding levelBytes toBytes
 length-level s = refl
 
-length-season : (k : ℕ) (v : ℤ) → length (seasonBytes k v) ≡ 10
+pub length-season : (k : ℕ) (v : ℤ) → length (seasonBytes k v) ≡ 10
 unfolding seasonBytes toBytes
 length-season k v = refl
 
@@ -234,7 +234,7 @@ unfolding cellsAt
 length-cells s zero = refl
 length-cells s (suc n) = length-set (cellsAt s n) n (signedAt s (38 + 10 * n)) ∙ length-cells s n
 
-cell-read : (s : List ℕ) (n k : ℕ) → n ≤ 48 → k < n → getD (cellsAt s n) k (pos 0) ≡ signedAt s (38 + 10 * k)
+pub cell-read : (s : List ℕ) (n k : ℕ) → n ≤ 48 → k < n → getD (cellsAt s n) k (pos 0) ≡ signedAt s (38 + 10 * k)
 unfolding cellsAt
 cell-read s zero k h l = absurd (not-suc-le-zero l)
 cell-read s (suc n) k h l =
@@ -243,7 +243,7 @@ cell-read s (suc n) k h l =
     (λ (lt : k < n). getD-set-other (cellsAt s n) n k (signedAt s (38 + 10 * n)) (pos 0) (λ q. omega arith) ∙ cell-read s n k (omega arith) lt)
     (eq-or-lt-of-le (le-of-suc-le-suc l))
 
-cell-none : (s : List ℕ) (n k : ℕ) → k < 48 → n ≤ k → getD (cellsAt s n) k (pos 0) ≡ pos 0
+pub cell-none : (s : List ℕ) (n k : ℕ) → k < 48 → n ≤ k → getD (cellsAt s n) k (pos 0) ≡ pos 0
 unfolding cellsAt
 cell-none s zero k h l = getD-replicate 48 k (pos 0) (pos 0) h
 cell-none s (suc n) k h l =
@@ -355,14 +355,14 @@ saved-back s b h =
     rw (accepts a .1, e, cut-at s 0 19 (17 + (10 * m + 10)), cut-at s 19 17 (10 * m + 10), cut-at s 36 (10 * m) 10, model-same s b a, level-same s b a, cells-same s b a, position-same s b a)
 
 -- ---- the same in the words of the contracts
-outcome-code : (n : ℕ) → outcomeCode (outcome n) ≡ n
+pub outcome-code : (n : ℕ) → outcomeCode (outcome n) ≡ n
 outcome-code zero = refl
 outcome-code (suc n) = rw (eqb·suc-zero n)
 
-is-accepted : (n : ℕ) → outcome n ≡ outcome-of.Accepted → n ≡ 0
+pub is-accepted : (n : ℕ) → outcome n ≡ outcome-of.Accepted → n ≡ 0
 is-accepted n e = sym (outcome-code n) ∙ ap outcomeCode e
 
-stored : (d xs : List ℕ) → length xs ≤ length d → sets d 0 xs ≡ xs ++ drop (length xs) d
+pub stored : (d xs : List ℕ) → length xs ≤ length d → sets d 0 xs ≡ xs ++ drop (length xs) d
 stored d xs h = sets-eq xs d 0 (rw (zero-add (length xs)) h) ∙ ap (λ (n : ℕ). xs ++ drop n d) (zero-add (length xs))
 
 -- what was saved is read as the state, and the rest is what followed it

@@ -1,2 +1,3 @@
 pub mod Bytes
 pub mod Snapshots
+pub mod Fields

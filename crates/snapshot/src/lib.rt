@@ -1,14 +1,18 @@
 // A state to bytes and back: document 01, "Commands". A snapshot is the paper's group.
 mod bytes;
+pub mod fields;
 mod reading;
 mod saving;
 
-use reading::decode;
+use bytes::read_i64;
+use bytes::read_le;
+use bytes::read_u32;
+use reading::read_cells;
 use reading::scan;
 use saving::write_level;
 use saving::write_model;
 use saving::write_position;
-use saving::write_seasons;
+use saving::write_season;
 use state::Outcome;
 use state::SHORT_BUFFER;
 use state::State;
@@ -16,7 +20,7 @@ use state::checks::check;
 ghost use mathlib.Core.Path.{_≡_};
 ghost use Prim.Native.Nat.{_<_};
 ghost use lib.ListN.{length};
-ghost use Rattle.snapshot.specs.Snapshots.{noState, read, restOf, sizeOf, bytesNeeded, save, savedBytes};
+ghost use Rattle.snapshot.specs.Snapshots.{openCode, decoded, noState, read, restOf, sizeOf, bytesNeeded, save, savedBytes};
 
 // What reading a snapshot gives: the state and the bytes it took, or the rejection and the offset of its command.
 pub struct Opened {
@@ -88,26 +92,59 @@ fn snapshot_length(m: usize) -> usize
     requires { ⌜ m < 49 ⌝ }
     ensures { λ r. ⌜ r ≡ sizeOf m ⌝ }
 {
-    SNAPSHOT_LENGTH[m]
+    let table = &SNAPSHOT_LENGTH;
+    table[m]
 }
 
-// What stands in the place of a state after a rejection.
-fn no_state() -> State
-    ensures { λ r. ⌜ r ≡ noState ⌝ }
+// A rejected snapshot gives no state.
+fn rejected(code: u8, offset: usize) -> Opened
+    ensures { λ r. ⌜ r ≡ record { outcome = Outcome.Rejected code; offset = offset; state = noState } ⌝ }
 {
-    State {
-        model: 0,
-        period: 0,
-        alpha: 0,
-        beta: 0,
-        gamma: 0,
-        phi: 0,
-        level: 0,
-        trend: 0,
-        seasonal: [0; 48],
-        index: 0,
-        count: 0,
+    Opened {
+        outcome: Outcome::Rejected(code),
+        offset,
+        state: State {
+            model: 0,
+            period: 0,
+            alpha: 0,
+            beta: 0,
+            gamma: 0,
+            phi: 0,
+            level: 0,
+            trend: 0,
+            seasonal: [0; 48],
+            index: 0,
+            count: 0,
+        },
     }
+}
+
+// An accepted one gives the state that it holds.
+fn accepted(s: &[u8], offset: usize) -> Opened
+    requires { ⌜ openCode (now s) ≡ 0 ⌝ }
+    ensures { λ r. ⌜ r ≡ record { outcome = Outcome.Accepted; offset = offset; state = decoded (now (s .entry)) } ⌝ }
+{
+    let m = s[2] as usize;
+    let at = 10 * m;
+    let mut opened = Opened {
+        outcome: Outcome::Accepted,
+        offset,
+        state: State {
+            model: s[1],
+            period: s[2],
+            alpha: read_u32(s, 3),
+            beta: read_u32(s, 7),
+            gamma: read_u32(s, 11),
+            phi: read_u32(s, 15),
+            level: read_i64(s, 20),
+            trend: read_i64(s, 28),
+            seasonal: [0; 48],
+            index: s[37 + at],
+            count: read_le(s, 38 + at, 8),
+        },
+    };
+    read_cells(s, m, &mut opened.state.seasonal);
+    opened
 }
 
 // The snapshot at the front of a stream.
@@ -116,20 +153,10 @@ pub fn read(stream: &[u8]) -> Opened
 {
     let found = scan(stream);
     let code = found.code;
-    let offset = found.offset;
-    if code != 0 {
-        let state = no_state();
-        return Opened {
-            outcome: Outcome::Rejected(code),
-            offset,
-            state,
-        };
-    }
-    let state = decode(stream);
-    Opened {
-        outcome: Outcome::Accepted,
-        offset,
-        state,
+    if code == 0 {
+        accepted(stream, found.offset)
+    } else {
+        rejected(code, found.offset)
     }
 }
 
@@ -173,7 +200,12 @@ pub fn save(s: State, buffer: &mut [u8]) -> Outcome
     }
     write_model(buffer, s.model, s.period, s.alpha, s.beta, s.gamma, s.phi);
     write_level(buffer, s.level, s.trend);
-    write_seasons(buffer, m, &s.seasonal);
+    let mut k = 0;
+    while k < m {
+        let v = s.seasonal[k];
+        write_season(buffer, k, v);
+        k += 1;
+    }
     write_position(buffer, size - 10, s.index, s.count);
     Outcome::Accepted
 }

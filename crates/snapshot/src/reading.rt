@@ -8,7 +8,6 @@ use state::BAD_PERIOD;
 use state::BAD_POSITION;
 use state::BAD_VALUE;
 use state::OUT_OF_PLACE;
-use state::State;
 use state::TRUNCATED;
 use state::UNKNOWN_COMMAND;
 use state::WRONG_INDEX;
@@ -25,7 +24,7 @@ ghost use Prim.Native.Nat.{_+_, _*_, _≤_, _<_};
 ghost use lib.IntN.{pos};
 ghost use lib.ListN.{length, getD, replicate};
 ghost use Rattle.state.specs.Rejections.{unless, _then_, unknown-command, out-of-place, bad-model, bad-period, bad-parameter};
-ghost use Rattle.snapshot.specs.Snapshots.{isCommand, dueCode, modelCode, levelCode, seasonCode, seasonsCode, seasonsRead, positionCode, openCode, openOffset, cellsAt, decoded};
+ghost use Rattle.snapshot.specs.Snapshots.{isCommand, dueCode, modelCode, levelCode, seasonCode, seasonsCode, seasonsRead, positionCode, openCode, openOffset, cellsAt};
 
 // What the checks of a stream found: the rejection or 0, and an offset.
 pub struct Scanned {
@@ -227,7 +226,7 @@ pub fn scan(s: &[u8]) -> Scanned
 }
 
 // The season cells of an accepted snapshot.
-fn read_cells(s: &[u8], m: usize, cells: &mut [i64; 48])
+pub fn read_cells(s: &[u8], m: usize, cells: &mut [i64; 48])
     requires { ⌜ (m ≤ 48) × (36 + 10 * m ≤ length (now s)) × (now cells ≡ replicate 48 (pos 0)) ⌝ }
     ensures { λ _. ⌜ now (cells .exit) ≡ cellsAt (now (s .entry)) m ⌝ }
 {
@@ -237,28 +236,4 @@ fn read_cells(s: &[u8], m: usize, cells: &mut [i64; 48])
         cells[k] = v;
         k += 1;
     }
-}
-
-// The state of an accepted snapshot.
-pub fn decode(s: &[u8]) -> State
-    requires { ⌜ openCode (now s) ≡ 0 ⌝ }
-    ensures { λ r. ⌜ r ≡ decoded (now (s .entry)) ⌝ }
-{
-    let m = s[2] as usize;
-    let at = 10 * m;
-    let mut state = State {
-        model: s[1],
-        period: s[2],
-        alpha: read_u32(s, 3),
-        beta: read_u32(s, 7),
-        gamma: read_u32(s, 11),
-        phi: read_u32(s, 15),
-        level: read_i64(s, 20),
-        trend: read_i64(s, 28),
-        seasonal: [0; 48],
-        index: s[37 + at],
-        count: read_le(s, 38 + at, 8),
-    };
-    read_cells(s, m, &mut state.seasonal);
-    state
 }

@@ -11,7 +11,7 @@ ghost use lib.ListN.{length};
 ghost use lib.Seq.{sets};
 ghost use Rattle.state.specs.Models.{trendOf, seasonOf};
 ghost use Rattle.snapshot.specs.Bytes.{toBytes, signedBytes};
-ghost use Rattle.snapshot.specs.Snapshots.{modelByte, seasonBytes, seasonsBytes};
+ghost use Rattle.snapshot.specs.Snapshots.{modelByte, seasonBytes};
 
 // The model byte put together from its parts.
 fn model_byte(trend: u8, season: u8) -> u8
@@ -46,7 +46,7 @@ pub fn write_level(d: &mut [u8], level: i64, trend: i64)
 }
 
 // Command 12 for place k.
-fn write_season(d: &mut [u8], k: usize, v: i64)
+pub fn write_season(d: &mut [u8], k: usize, v: i64)
     requires { ⌜ (k < 48) × (46 + 10 * k ≤ length (now d)) ⌝ }
     ensures { λ _. ⌜ now (d .exit) ≡ sets (now (d .entry)) (36 + 10 * k) (seasonBytes k v) ⌝ }
 {
@@ -54,19 +54,6 @@ fn write_season(d: &mut [u8], k: usize, v: i64)
     write_byte(d, 36 + at, 0x12);
     write_byte(d, 37 + at, k as u8);
     write_i64(d, 38 + at, v);
-}
-
-// Commands 12 for the places 0 to m − 1 rising.
-pub fn write_seasons(d: &mut [u8], m: usize, cells: &[i64; 48])
-    requires { ⌜ (m ≤ 48) × (36 + 10 * m ≤ length (now d)) ⌝ }
-    ensures { λ _. ⌜ now (d .exit) ≡ sets (now (d .entry)) 36 (seasonsBytes (now (cells .entry)) m) ⌝ }
-{
-    let mut k = 0;
-    while k < m {
-        let v = cells[k];
-        write_season(d, k, v);
-        k += 1;
-    }
 }
 
 // Command 13.

@@ -68,6 +68,12 @@ passes s p =
 pub in-range : (v : ℤ) → inRange v ≡ true → Within 1099511627776 v
 in-range v h = let p = both (leZ (negsuc 1099511627775) v) (leZ v (pos 1099511627776)) h in omega ints
 
+pub range-in : (v : ℤ) → Within 1099511627776 v → inRange v ≡ true
+range-in v w =
+    let a : leZ (negsuc 1099511627775) v ≡ true = omega ints in
+    let b : leZ v (pos 1099511627776) ≡ true = omega ints in
+    rw (a, b)
+
 pub is-reading : (y : ℤ) → isReading y ≡ true → Within 1000000 y
 is-reading y h = let p = both (leZ (negsuc 999999) y) (leZ y (pos 1000000)) h in omega ints
 

@@ -22,7 +22,7 @@ abbrev Inv-loop : tie.InvT-loop
 Inv-loop h values₀ s line₀ d₀ p₀ i₀ values line d p i =
     (i ≤ h)
     × (toZ w64 d ≡ trendAt (s .phi) (s .trend) i)
-    × (toZ w64 line ≡ trendLine s i)
+    × (toZ w64 line ≡ trendLine (s .level) (s .phi) (s .trend) i)
     × (p ≡ ahead (s .period) (s .index) i)
     × (length values ≡ length values₀)
     × (values ≡ forecastList s i ++ drop i values₀)
@@ -40,11 +40,12 @@ place c =
     let b = bounded-at (at .before .before .before) in
     rw (at .loop .inv .3) (ahead-small _ _ (at .loop .i) (b .period) (b .index))
 
-turn-at : (c : tie.After-gain Inv-loop μ-loop) → Turn (c .before .before .before .before .before .args .t1) (c .before .before .loop .i) (toZ w64 (c .before .before .loop .line)) (c .gain .result)
+turn-at : (c : tie.After-gain Inv-loop μ-loop) → let s = c .before .before .before .before .before .args .t1 in Turn (s .level) (s .phi) (s .trend) (c .before .before .loop .i) (toZ w64 (c .before .before .loop .line)) (c .gain .result)
 turn-at c =
     let at = c .before .before in
     let s = at .before .before .before in
-    turn (s .args .t1) (bounded-at s) (at .loop .i) (omega (arith, s .pre .1)) (toZ w64 (at .loop .d)) (toZ w64 (at .loop .line)) (c .gain .result) (at .loop .inv .1) (at .loop .inv .2) (c .gain .ok) (c .gain .ensures)
+    let b = bounded-at s in
+    turn (s .args .t1 .level) (s .args .t1 .phi) (s .args .t1 .trend) (b .phi) (b .level) (b .trend) (at .loop .i) (omega (arith, s .pre .1)) (toZ w64 (at .loop .d)) (toZ w64 (at .loop .line)) (c .gain .result) (at .loop .inv .1) (at .loop .inv .2) (c .gain .ok) (c .gain .ensures)
 
 loop-holds : tie.Need-loop-holds Inv-loop μ-loop
 unfolding trendAt trendLine ahead forecastList
@@ -55,7 +56,7 @@ gain-requires : tie.Need-gain-requires Inv-loop μ-loop
 gain-requires c κs =
     let at = c .before in
     let b = bounded-at (at .before .before .before) in
-    (b .phi, rw (at .loop .inv .1) (trend-bound _ b (at .loop .i)))
+    (b .phi, rw (at .loop .inv .1) (trend-bound _ _ _ (b .phi) (b .level) (b .trend) (at .loop .i)))
 
 add-line : tie.Need-add-line Inv-loop μ-loop
 add-line c = turn-at c .fits
@@ -84,13 +85,13 @@ module _ (c : tie.After-season Inv-loop μ-loop) where
   unfolding forecastOf
   value-fits =
       within-fits w64
-      (within-add {m = 1099511627776} (line-bound (st .args .t1) (bounded-at st) (suc (at .loop .i)) (omega (arith, st .pre .1)))
+      (within-add {m = 1099511627776} (line-bound _ _ _ (bounded-at st .phi) (bounded-at st .level) (bounded-at st .trend) (suc (at .loop .i)) (omega (arith, st .pre .1)))
       (rw (season-ahead (st .args .t1) (st .pre .0) (at .loop .i), ← (at .loop .inv .3)) (bounded-at st .cells (at .loop .p) (place (c .before .before)))))
       (omega arith)
 
   value-is : toZ w64 (ofZ w64 (toZ w64 (at .loop .line) +ℤ toZ w64 (ofZ w64 (c .before .gain .result)))) +ℤ toZ w64 (ofZ w64 (getD (st .args .t1 .seasonal) (at .loop .p) (pos 0))) ≡ forecastOf (st .args .t1) (suc (at .loop .i))
   unfolding forecastOf
-  value-is = rw (turn-at (c .before) .line, season-is)
+  value-is = rw (turn-at (c .before) .line-is, season-is)
 
   machine-is : toZ w64 (ofZ w64 (toZ w64 (ofZ w64 (toZ w64 (at .loop .line) +ℤ toZ w64 (ofZ w64 (c .before .gain .result)))) +ℤ toZ w64 (ofZ w64 (getD (st .args .t1 .seasonal) (at .loop .p) (pos 0))))) ≡ forecastOf (st .args .t1) (suc (at .loop .i))
   machine-is = rw (value-is) (toZ-ofZ w64 _ value-fits)
@@ -125,7 +126,7 @@ loop-again c =
     let t = turn-at (f .before) in (
       search needs,
       rw add-one (t .trend),
-      rw add-one (t .line),
+      rw add-one (t .line-is),
       rw add-one (c .next-index .ensures ∙ rw (at f .loop .inv .3)),
       simp length-set (at f .loop .inv .4),
       rw add-one (stored-is f),

@@ -5,40 +5,42 @@ use native.Mathlib.Numerals.{add-one}
 use native.Mathlib.Omega.{arith}
 use mir.Syntax.{w64}
 use mir.Val.{toZ, ofZ}
+use mir.Facts.{toZ-ofZ}
 use borrow.Author.Needs.{needs}
-use Rattle.integers.proofs.Difference.{back}
-use Rattle.state.proofs.Passing.{Bounded, bounded}
+use Rattle.integers.specs.Bounds.{Within}
 use Rattle.ets.specs.Forecasts.{trendAt, trendLine}
 use Rattle.ets.proofs.ForecastLaws.{Turn, turn, trend-bound, line-bound}
 use Rattle.ets.proofs.forecasts.trend_line.Statement.{statement}
 use Rattle.ets.proofs.forecasts.trend_line.Tie as tie
 
 abbrev Inv-loop : tie.InvT-loop
-Inv-loop s h line₀ d₀ j₀ line d j =
-    (j ≤ h) × (toZ w64 d ≡ trendAt (s .phi) (s .trend) j) × (toZ w64 line ≡ trendLine s j)
+Inv-loop level phi trend h line₀ d₀ j₀ line d j =
+    (j ≤ h) × (toZ w64 d ≡ trendAt phi (toZ w64 trend) j) × (toZ w64 line ≡ trendLine (toZ w64 level) phi (toZ w64 trend) j)
 
 abbrev μ-loop : tie.MeasureT-loop
-μ-loop s h line₀ d₀ j₀ line d j = h - j
+μ-loop level phi trend h line₀ d₀ j₀ line d j = h - j
 
-bounded-at : (c : tie.Start Inv-loop μ-loop) → Bounded (c .args .s)
-bounded-at c = bounded (c .args .s) (c .pre .0)
+level-in : (c : tie.Start Inv-loop μ-loop) → Within 1099511627776 (toZ w64 (ofZ w64 (c .args .level)))
+level-in c = rw (toZ-ofZ (c .fits .level)) (c .pre .1)
 
-turn-at : (c : tie.After-gain Inv-loop μ-loop) → Turn (c .before .before .before .before .before .args .s) (c .before .before .loop .j) (toZ w64 (c .before .before .loop .line)) (c .gain .result)
+trend-in : (c : tie.Start Inv-loop μ-loop) → Within 1099511627776 (toZ w64 (ofZ w64 (c .args .trend)))
+trend-in c = rw (toZ-ofZ (c .fits .trend)) (c .pre .2)
+
+turn-at : (c : tie.After-gain Inv-loop μ-loop) → let s = c .before .before .before .args in Turn (toZ w64 (ofZ w64 (s .level))) (s .phi) (toZ w64 (ofZ w64 (s .trend))) (c .before .before .loop .j) (toZ w64 (c .before .before .loop .line)) (c .gain .result)
 turn-at c =
     let at = c .before .before in
-    let s = at .before .before .before in
-    turn (s .args .s) (bounded-at s) (at .loop .j) (omega (arith, s .pre .1)) (toZ w64 (at .loop .d)) (toZ w64 (at .loop .line)) (c .gain .result) (at .loop .inv .1) (at .loop .inv .2) (c .gain .ok) (c .gain .ensures)
+    let s = at .before in
+    turn _ (s .args .phi) _ (s .pre .0) (level-in s) (trend-in s) (at .loop .j) (omega (arith, s .pre .3)) (toZ w64 (at .loop .d)) (toZ w64 (at .loop .line)) (c .gain .result) (at .loop .inv .1) (at .loop .inv .2) (c .gain .ok) (c .gain .ensures)
 
 loop-holds : tie.Need-loop-holds Inv-loop μ-loop
 unfolding trendAt trendLine
-loop-holds c =
-    (search needs, back w64 _ (c .struct-told2 .given .1 .1 .1 .1 .1 .1 .1 .0 .1), back w64 _ (c .struct-told2 .given .1 .1 .1 .1 .1 .1 .0 .1))
+loop-holds c = (search needs, refl, refl)
 
 gain-requires : tie.Need-gain-requires Inv-loop μ-loop
 gain-requires c κs =
     let at = c .before in
-    let b = bounded-at (at .before .before .before) in
-    (b .phi, rw (at .loop .inv .1) (trend-bound _ b (at .loop .j)))
+    let s = at .before in
+    (s .pre .0, rw (at .loop .inv .1) (trend-bound _ _ _ (s .pre .0) (level-in s) (trend-in s) (at .loop .j)))
 
 add-line : tie.Need-add-line Inv-loop μ-loop
 add-line c = turn-at c .fits
@@ -50,14 +52,14 @@ loop-less : tie.Need-loop-less Inv-loop μ-loop
 loop-less c = search needs
 
 loop-again : tie.Need-loop-again Inv-loop μ-loop
-loop-again c = let t = turn-at c in (search needs, rw add-one (t .trend), rw add-one (t .line))
+loop-again c = let t = turn-at c in (search needs, rw add-one (t .trend), rw add-one (t .line-is))
 
 returns : tie.Need-returns Inv-loop μ-loop
 returns c =
     let at = c .before in
-    let s = at .before .before .before in
+    let s = at .before in
     let n : at .loop .j ≡ s .args .h = omega arith in
-    rw (at .loop .inv .2, n) (refl, line-bound (s .args .s) (bounded-at s) (s .args .h) (s .pre .1))
+    rw (at .loop .inv .2, n, toZ-ofZ (s .fits .level), toZ-ofZ (s .fits .trend)) (refl, line-bound _ _ _ (s .pre .0) (s .pre .1) (s .pre .2) (s .args .h) (s .pre .3))
 
 pub trend-line-spec : {M : Type 1} → statement M
 trend-line-spec =

@@ -11,7 +11,7 @@ use Rattle.state.specs.declared.State.{State}
 use Rattle.state.proofs.Passing.{Bounded, bounded}
 use Rattle.ets.specs.Steps.{residualOf, stepCode}
 use Rattle.ets.specs.Updates.{stored}
-use Rattle.ets.specs.declared.numbers.Update.{Update}
+use Rattle.ets.specs.declared.Update.{Update}
 use Rattle.ets.proofs.StepLaws.{step-accepted, step-rejected, step-unchecked}
 use Rattle.ets.proofs.UpdateLaws.{readNumbers, newNumbers, read-code, read-is, stored-is, step-room}
 use borrow.Author.Needs.{needs}

@@ -1,0 +1,24 @@
+use mir.Syntax.{w64}
+use Rattle.integers.proofs.Difference.{back}
+use borrow.Author.Needs.{needs}
+use Rattle.ets.proofs.updates.ranges_ok.Statement.{statement}
+use Rattle.ets.proofs.updates.ranges_ok.Tie as tie
+
+in-range-requires : tie.Need-in-range-requires
+in-range-requires c κs = search needs
+
+in-range-requires-2 : tie.Need-in-range-requires-2
+in-range-requires-2 c κs = search needs
+
+in-range-requires-3 : tie.Need-in-range-requires-3
+in-range-requires-3 c κs = search needs
+
+returns : tie.Need-returns
+returns c =
+    let n = c .before .before .before .before .before .before .args .n in
+    let t = c .before .struct-told3 .given in
+    rw (c .in-range3 .ensures, c .before .before .in-range2 .ensures, c .before .before .before .before .in-range .ensures, back w64 (n .level) (t .1 .1 .1 .1 .0 .1), back w64 (n .trend) (t .1 .1 .1 .1 .1 .0 .1), back w64 (n .season) (t .1 .1 .1 .1 .1 .1 .0 .1))
+
+pub ranges-ok-spec : {M : Type 1} → statement M
+ranges-ok-spec =
+    tie.close (tie.spec in-range-requires in-range-requires-2 in-range-requires-3 returns)
