@@ -4,7 +4,7 @@ use mathlib.Core.Path.{_≡_, refl, sym, ap, _∙_}
 use mathlib.Core.Bool.{Bool, true, false, not, cond, _&&_}
 use mathlib.Core.List.{List, [], _∷_, _++_}
 use native.Mathlib.Decide.{decLe}
-use native.Mathlib.Nat.{not-suc-le-zero, suc-mod, mod-lt, mod-eq-of-lt, mod-self}
+use native.Mathlib.Nat.{suc-mod, mod-lt, mod-eq-of-lt, mod-self}
 use native.Mathlib.Omega.{arith}
 use lib.Dec.{eqb, ltb, leb}
 use lib.IntN.{ℤ, pos, _+ℤ_, _*ℤ_}
@@ -147,13 +147,9 @@ module _ (l : ℤ) (F : ℕ) (b : ℤ) (f : F ≤ 65536) (wl : Within 1099511627
       let w : SFits w64 (trendLine l F b (suc i)) = within-fits w64 (line-bound (suc i) (omega arith)) (omega arith) in
       record { trend = t; fits = rw (t, el) w; line-is = rw (t, el) (toZ-ofZ w64 (trendLine l F b (suc i)) w) }
 
--- ---- the forecast on the numbers of a state that passes its checks is the state's
-season-within : (s : State) → check s ≡ 0 → (h : ℕ) → 1 ≤ h → Within 1099511627776 (seasonAt s h)
-season-within s ok zero l = absurd (not-suc-le-zero l)
-season-within s ok (suc i) l = let b = bounded s ok in rw (season-ahead s ok i) (b .cells _ (ahead-small _ _ i (b .period) (b .index)))
-
-pub from-code : (s : State) → check s ≡ 0 → (h : ℕ) → 1 ≤ h → forecastFromCode (s .level) (s .phi) (s .trend) (seasonAt s h) h ≡ forecastCode s h
+-- ---- the forecast on the numbers of a state that passes its checks, with any season value in range, is rejected as the state's
+pub from-code : (s : State) → check s ≡ 0 → (v : ℤ) → Within 1099511627776 v → (h : ℕ) → forecastFromCode (s .level) (s .phi) (s .trend) v h ≡ forecastCode s h
 unfolding forecastCode
-from-code s ok h l =
+from-code s ok v w h =
     let b = bounded s ok in
-    rw (ok, le-leb _ _ (b .phi), range-in _ (b .level), range-in _ (b .trend), range-in _ (season-within s ok h l))
+    rw (ok, le-leb _ _ (b .phi), range-in _ (b .level), range-in _ (b .trend), range-in _ w)

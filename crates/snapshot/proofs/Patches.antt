@@ -91,7 +91,7 @@ module _ (s : State) where
       right (modelBytes s) (levelBytes s ++ rest) b (36 + j) (17 + j) (omega (arith, length-model s)) (omega (arith, length-tail))
       ∙ ap (λ (l : List ℕ). modelBytes s ++ l) (right (levelBytes s) rest b (17 + j) j (omega (arith, length-level s)) (omega (arith, length-rest)))
 
-  abbrev leveled : ℤ → ℤ → State
+  abbrev pub leveled : ℤ → ℤ → State
   leveled l b =
       record {
         model = s .model;
@@ -129,7 +129,7 @@ module _ (s : State) where
       let room : 36 ≤ length (encoded s) = omega (arith, length-encoded s) in
       rw (le-leb 36 (length (encoded s)) room) (level-sets l b)
 
-  abbrev seasoned : List ℤ → State
+  abbrev pub seasoned : List ℤ → State
   seasoned cells =
       record {
         model = s .model;
@@ -165,7 +165,7 @@ module _ (s : State) where
       ∙ ap (λ (b : List ℕ). modelBytes s ++ (levelBytes s ++ b)) (season-rest k v h full l)
       ∙ sym (seasoned-is (set (s .seasonal) k v)))
 
-  abbrev positioned : ℕ → ℕ → State
+  abbrev pub positioned : ℕ → ℕ → State
   positioned p n =
       record {
         model = s .model;

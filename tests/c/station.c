@@ -1,0 +1,493 @@
+/* The station's calls, tried from C: every call, every refusal that can reach it, guard bytes before each buffer and
+ * an unmapped page after it, and long runs on one group beside the plain recursion of reference.c. */
+#define _DEFAULT_SOURCE
+#include "forecaster.h"
+#include "reference.h"
+
+#include <stdio.h>
+#include <stdlib.h>
+#include <string.h>
+#include <sys/mman.h>
+#include <unistd.h>
+
+#define GUARD 64
+#define GUARD_BYTE 0xA5
+#define MOST (FORECASTER_GROUP_LENGTH(48) + 8)
+#define UNTOUCHED INT64_C(0x5AA5DEADBEEF1234)
+
+static unsigned long calls, failures;
+static const char *what = "";
+
+static void expect(int holds, const char *text) {
+    if (holds)
+        return;
+    failures++;
+    fprintf(stderr, "%s: %s (call %lu)\n", what, text, calls);
+    if (failures > 20)
+        exit(1);
+}
+
+/* ---- buffers: the last byte of a buffer is the last of its page, and the page after it can't be touched */
+static uint8_t *pages;
+static size_t page;
+
+static void map_pages(void) {
+    page = (size_t)sysconf(_SC_PAGESIZE);
+    pages = mmap(NULL, 2 * page, PROT_READ | PROT_WRITE, MAP_PRIVATE | MAP_ANONYMOUS, -1, 0);
+    if (pages == MAP_FAILED || mprotect(pages + page, page, PROT_NONE) != 0) {
+        perror("pages");
+        exit(1);
+    }
+}
+
+static uint8_t *lend(const uint8_t *bytes, size_t length) {
+    uint8_t *at = pages + page - length;
+    memset(at - GUARD, GUARD_BYTE, GUARD);
+    if (length > 0)
+        memcpy(at, bytes, length);
+    return at;
+}
+
+static void expect_bytes(const uint8_t *at, const uint8_t *bytes, size_t length) {
+    for (int i = 1; i <= GUARD; i++)
+        expect(at[-i] == GUARD_BYTE, "a byte before the buffer was written");
+    expect(length == 0 || memcmp(at, bytes, length) == 0, "the group holds other bytes than expected");
+}
+
+/* the number's cell between two guards */
+struct cell {
+    int64_t before, value, after;
+};
+
+static struct cell fresh(void) {
+    struct cell c = {~UNTOUCHED, UNTOUCHED, ~UNTOUCHED};
+    return c;
+}
+
+static void expect_cell(struct cell c, int64_t value) {
+    expect(c.before == ~UNTOUCHED && c.after == ~UNTOUCHED, "a byte beside the lent number was written");
+    expect(c.value == value, "the lent number is not the one expected");
+}
+
+/* ---- one call on a copy of the bytes beside the reference; what the group then holds goes back into the bytes */
+static int try_step(uint8_t *bytes, size_t length, int32_t reading) {
+    struct ref_state st;
+    uint8_t after[MOST];
+    struct cell c = fresh();
+    int64_t e = UNTOUCHED;
+    int code = ref_open(bytes, length, &st);
+    if (!code)
+        code = ref_step(&st, reading, &e);
+    if (!code)
+        expect(ref_group(&st, after) == length, "the reference writes a group of another length");
+    else
+        memcpy(after, bytes, length);
+    uint8_t *at = lend(bytes, length);
+    calls++;
+    int got = forecaster_step(at, length, reading, &c.value);
+    expect(got == code, "step returned another number");
+    expect_bytes(at, after, length);
+    expect_cell(c, e);
+    memcpy(bytes, after, length);
+    return got;
+}
+
+static int try_missing(uint8_t *bytes, size_t length) {
+    struct ref_state st;
+    uint8_t after[MOST];
+    int code = ref_open(bytes, length, &st);
+    if (!code)
+        code = ref_missing(&st);
+    if (!code)
+        ref_group(&st, after);
+    else
+        memcpy(after, bytes, length);
+    uint8_t *at = lend(bytes, length);
+    calls++;
+    int got = forecaster_missing(at, length);
+    expect(got == code, "missing returned another number");
+    expect_bytes(at, after, length);
+    memcpy(bytes, after, length);
+    return got;
+}
+
+static int try_forecast(const uint8_t *bytes, size_t length, uint32_t horizon) {
+    struct ref_state st;
+    struct cell c = fresh();
+    int64_t f = UNTOUCHED;
+    int code = ref_open(bytes, length, &st);
+    if (!code)
+        code = ref_forecast(&st, horizon, &f);
+    const uint8_t *at = lend(bytes, length);
+    calls++;
+    int got = forecaster_forecast(at, length, horizon, &c.value);
+    expect(got == code, "forecast returned another number");
+    expect_bytes(at, bytes, length);
+    expect_cell(c, f);
+    return got;
+}
+
+/* all three calls on bytes that each must refuse by the same number */
+static void all_refuse(const uint8_t *bytes, size_t length, int code) {
+    uint8_t copy[MOST];
+    memcpy(copy, bytes, length);
+    expect(try_step(copy, length, 5) == code, "a step was not refused by this number");
+    expect(try_missing(copy, length) == code, "a missing reading was not refused by this number");
+    expect(try_forecast(copy, length, 1) == code, "a forecast was not refused by this number");
+}
+
+/* ---- groups */
+static struct ref_state plain(int model, int m) {
+    struct ref_state st;
+    memset(&st, 0, sizeof st);
+    st.trend = model % 4;
+    st.season = model / 4;
+    st.m = m;
+    st.A = 16384;
+    st.B = st.trend ? 4096 : 0;
+    st.G = st.season ? 8192 : 0;
+    st.F = st.trend == 0 ? 0 : st.trend == 1 ? 65536 : 58982;
+    for (int k = 0; k < m; k++)
+        st.s[k] = 65536 * (k % 7 - 3);
+    return st;
+}
+
+static const int models[] = {0, 1, 2, 4, 5, 6};
+static const int periods[] = {2, 3, 24, 48};
+
+/* ---- the answers of document 01's listing and station cases */
+static void listed_cases(void) {
+    uint8_t bytes[MOST];
+    struct ref_state st;
+    int64_t number = 0;
+    what = "T2";
+    st = plain(0, 0);
+    st.A = 32768;
+    size_t n = ref_group(&st, bytes);
+    uint8_t *at = lend(bytes, n);
+    expect(forecaster_step(at, n, 10, &number) == 0 && number == 655360, "e of the listing's step");
+    expect(forecaster_forecast(at, n, 2, &number) == 0 && number == 327680, "the listing's forecast");
+    what = "T3";
+    st = plain(1, 0);
+    st.A = 32768;
+    st.B = 16384;
+    st.b = 65536;
+    n = ref_group(&st, bytes);
+    at = lend(bytes, n);
+    expect(forecaster_step(at, n, 3, &number) == 0, "the step");
+    ref_open(at, n, &st);
+    expect(st.l == 131072 && st.b == 98304, "l 131072, b 98304");
+    expect(forecaster_forecast(at, n, 3, &number) == 0 && number == 425984, "forecast 3");
+    what = "T5 and T6";
+    st = plain(4, 2);
+    st.G = 32768;
+    st.s[0] = 65536;
+    st.s[1] = -65536;
+    n = ref_group(&st, bytes);
+    at = lend(bytes, n);
+    expect(forecaster_step(at, n, 5, &number) == 0, "the step");
+    ref_open(at, n, &st);
+    expect(st.l == 65536 && st.s[0] == 196608 && st.p == 1 && st.count == 1, "l 65536, first s 196608, p 1");
+    const int64_t forecasts[] = {0, 262144, 0};
+    for (uint32_t h = 1; h <= 3; h++)
+        expect(forecaster_forecast(at, n, h, &number) == 0 && number == forecasts[h - 1], "forecasts 1, 2, 3");
+    expect(forecaster_missing(at, n) == 0, "the missing reading");
+    ref_open(at, n, &st);
+    expect(st.l == 65536 && st.s[0] == 196608 && st.s[1] == -65536 && st.p == 0 && st.count == 2, "p 0 and the count");
+    calls += 8;
+}
+
+/* ---- refusals 2, 3 and 4 at every place of every kind of group */
+static void cuts_and_commands(void) {
+    for (size_t i = 0; i < sizeof models / sizeof *models; i++)
+        for (size_t j = 0; j < sizeof periods / sizeof *periods; j++) {
+            int season = models[i] >= 4;
+            if (!season && j > 0)
+                continue;
+            struct ref_state st = plain(models[i], season ? periods[j] : 0);
+            uint8_t bytes[MOST];
+            size_t n = ref_group(&st, bytes);
+            what = "a cut group";
+            for (size_t cut = 0; cut < n; cut++)
+                all_refuse(bytes, cut, FORECASTER_TRUNCATED);
+            what = "a byte after the group";
+            for (int after = 0; after < 256; after++) {
+                bytes[n] = (uint8_t)after;
+                all_refuse(bytes, n + 1, FORECASTER_OUT_OF_PLACE);
+            }
+            what = "a first byte";
+            for (size_t at = 0; at < n; at = at == 0 ? 19 : at == 19 ? 36 : at + 10)
+                for (int first = 0; first < 256; first++) {
+                    uint8_t due = bytes[at];
+                    bytes[at] = (uint8_t)first;
+                    int low = first & 15, high = first >> 4;
+                    int known = (high == 1 && low < 4) || (high == 2 && low < 2) || (high == 3 && low < 2) || first == 0x40;
+                    if (first != due)
+                        all_refuse(bytes, n, known ? FORECASTER_OUT_OF_PLACE : FORECASTER_UNKNOWN_COMMAND);
+                    /* out of place is told before cut */
+                    if (first != due && known)
+                        all_refuse(bytes, at + 1, FORECASTER_OUT_OF_PLACE);
+                    bytes[at] = due;
+                }
+        }
+}
+
+/* ---- refusals 5 to 11 and 13 to 15, at the edges of each range */
+static void operands(void) {
+    const int64_t range = INT64_C(1) << 40;
+    const uint64_t full = UINT64_C(1) << 48;
+    uint8_t bytes[MOST];
+    struct ref_state st;
+    size_t n;
+#define REFUSED(code)               \
+    do {                            \
+        n = ref_group(&st, bytes);  \
+        all_refuse(bytes, n, code); \
+    } while (0)
+#define TAKEN()                                                             \
+    do {                                                                    \
+        n = ref_group(&st, bytes);                                          \
+        expect(try_forecast(bytes, n, 1) == 0, "a valid group was refused"); \
+    } while (0)
+    what = "model byte";
+    for (int model = 0; model < 256; model++) {
+        st = plain(0, 0);
+        n = ref_group(&st, bytes);
+        bytes[1] = (uint8_t)model;
+        if (model > 6 || model == 3)
+            all_refuse(bytes, n, FORECASTER_BAD_MODEL);
+    }
+    what = "season length";
+    for (int m = 1; m < 256; m++) {
+        st = plain(0, 0);
+        n = ref_group(&st, bytes);
+        bytes[2] = (uint8_t)m;
+        all_refuse(bytes, n, FORECASTER_BAD_PERIOD);
+    }
+    for (int m = 0; m < 256; m++) {
+        st = plain(4, m >= 2 && m <= 48 ? m : 2);
+        if (m >= 2 && m <= 48) {
+            TAKEN();
+            continue;
+        }
+        n = ref_group(&st, bytes);
+        bytes[2] = (uint8_t)m;
+        all_refuse(bytes, n, FORECASTER_BAD_PERIOD);
+    }
+    what = "parameters";
+    for (size_t i = 0; i < sizeof models / sizeof *models; i++) {
+        int m = models[i] >= 4 ? 2 : 0;
+        st = plain(models[i], m), st.A = 65536;
+        TAKEN();
+        st.A = 65537;
+        REFUSED(FORECASTER_BAD_PARAMETER);
+        st.A = UINT32_MAX;
+        REFUSED(FORECASTER_BAD_PARAMETER);
+        st = plain(models[i], m), st.B = st.trend ? 65537 : 1;
+        REFUSED(FORECASTER_BAD_PARAMETER);
+        st = plain(models[i], m), st.G = st.season ? 65537 : 1;
+        REFUSED(FORECASTER_BAD_PARAMETER);
+        st = plain(models[i], m), st.F = st.trend == 0 ? 1 : st.trend == 1 ? 65535 : 65536;
+        REFUSED(FORECASTER_BAD_PARAMETER);
+        st.F = st.trend == 0 ? 65536 : st.trend == 1 ? 65537 : 0;
+        REFUSED(FORECASTER_BAD_PARAMETER);
+    }
+    what = "values";
+    for (int sign = -1; sign <= 1; sign += 2) {
+        st = plain(6, 3), st.l = sign * range;
+        TAKEN();
+        st.l = sign * (range + 1);
+        REFUSED(FORECASTER_BAD_VALUE);
+        st = plain(6, 3), st.b = sign * range;
+        TAKEN();
+        st.b = sign * (range + 1);
+        REFUSED(FORECASTER_BAD_VALUE);
+        for (int k = 0; k < 3; k++) {
+            st = plain(6, 3), st.s[k] = sign * range;
+            TAKEN();
+            st.s[k] = sign * (range + 1);
+            REFUSED(FORECASTER_BAD_VALUE);
+            st.s[k] = sign < 0 ? INT64_MIN : INT64_MAX;
+            REFUSED(FORECASTER_BAD_VALUE);
+        }
+        st = plain(4, 3), st.b = sign;
+        REFUSED(FORECASTER_BAD_VALUE);
+    }
+    what = "season's place";
+    for (int k = 0; k < 3; k++)
+        for (int place = 0; place < 256; place++)
+            if (place != k) {
+                st = plain(4, 3);
+                n = ref_group(&st, bytes);
+                bytes[37 + 10 * k] = (uint8_t)place;
+                all_refuse(bytes, n, FORECASTER_WRONG_INDEX);
+            }
+    what = "place and count";
+    for (int p = 0; p < 256; p++) {
+        st = plain(4, 3), st.p = p;
+        if (p < 3)
+            TAKEN();
+        else
+            REFUSED(FORECASTER_BAD_POSITION);
+        st = plain(0, 0), st.p = p;
+        if (p == 0)
+            TAKEN();
+        else
+            REFUSED(FORECASTER_BAD_POSITION);
+    }
+    st = plain(0, 0), st.count = full + 1;
+    REFUSED(FORECASTER_BAD_POSITION);
+    st.count = UINT64_MAX;
+    REFUSED(FORECASTER_BAD_POSITION);
+    what = "full count";
+    st = plain(5, 2), st.count = full;
+    n = ref_group(&st, bytes);
+    expect(try_step(bytes, n, 0) == FORECASTER_COUNT_FULL, "a step was taken");
+    expect(try_step(bytes, n, 1000001) == FORECASTER_BAD_READING, "13 comes before 14");
+    expect(try_missing(bytes, n) == FORECASTER_COUNT_FULL, "a missing reading was taken");
+    expect(try_forecast(bytes, n, 1) == 0, "a forecast was refused");
+    st.count = full - 1;
+    n = ref_group(&st, bytes);
+    expect(try_step(bytes, n, 0) == 0, "the last step was refused");
+    st.count = full - 1;
+    n = ref_group(&st, bytes);
+    expect(try_missing(bytes, n) == 0, "the last missing reading was refused");
+    what = "readings";
+    const int32_t readings[] = {1000000, -1000000, 1000001, -1000001, INT32_MAX, INT32_MIN};
+    for (int i = 0; i < 6; i++) {
+        st = plain(6, 2);
+        n = ref_group(&st, bytes);
+        expect(try_step(bytes, n, readings[i]) == (i < 2 ? 0 : FORECASTER_BAD_READING), "a reading at the edge");
+    }
+    what = "horizons";
+    const uint32_t horizons[] = {1, 512, 0, 513, UINT32_MAX};
+    for (int i = 0; i < 5; i++) {
+        st = plain(6, 2);
+        n = ref_group(&st, bytes);
+        expect(try_forecast(bytes, n, horizons[i]) == (i < 2 ? 0 : FORECASTER_BAD_HORIZON), "a horizon at the edge");
+    }
+    what = "T12";
+    st = plain(1, 0), st.A = 0, st.B = 0, st.l = range, st.b = range;
+    n = ref_group(&st, bytes);
+    expect(try_step(bytes, n, 1000000) == FORECASTER_LEAVES_RANGE, "a level left its range");
+    what = "a new trend or season value";
+    st = plain(1, 0), st.A = 0, st.B = 65536, st.l = -range;
+    n = ref_group(&st, bytes);
+    expect(try_step(bytes, n, 1000000) == FORECASTER_LEAVES_RANGE, "a trend left its range");
+    st = plain(4, 2), st.A = 0, st.G = 65536, st.l = -range, st.s[0] = range;
+    n = ref_group(&st, bytes);
+    expect(try_step(bytes, n, 1000000) == FORECASTER_LEAVES_RANGE, "a season value left its range");
+#undef REFUSED
+#undef TAKEN
+}
+
+/* ---- random numbers */
+static uint64_t seed = 0x9E3779B97F4A7C15;
+
+static uint64_t random64(void) {
+    seed ^= seed << 13;
+    seed ^= seed >> 7;
+    seed ^= seed << 17;
+    return seed;
+}
+
+static int64_t pick(int64_t low, int64_t high) {
+    return low + (int64_t)(random64() % (uint64_t)(high - low + 1));
+}
+
+static struct ref_state random_state(void) {
+    int model = models[random64() % 6];
+    struct ref_state st = plain(model, model >= 4 ? (int)pick(2, 48) : 0);
+    const int64_t range = pick(0, 3) == 0 ? INT64_C(1) << 40 : INT64_C(1) << 30;
+    st.A = pick(0, 65536);
+    if (st.trend)
+        st.B = pick(0, 65536), st.b = pick(-range, range);
+    if (st.trend == 2)
+        st.F = pick(1, 65535);
+    if (st.season)
+        st.G = pick(0, 65536), st.p = (int)pick(0, st.m - 1);
+    st.l = pick(-range, range);
+    for (int k = 0; k < st.m; k++)
+        st.s[k] = pick(-range, range);
+    st.count = pick(0, 9) == 0 ? (UINT64_C(1) << 48) - (uint64_t)pick(0, 2) : (uint64_t)pick(0, 1000000);
+    return st;
+}
+
+/* ---- random groups, whole and damaged */
+static void damaged_groups(int rounds) {
+    what = "a random group";
+    for (int i = 0; i < rounds; i++) {
+        struct ref_state st = random_state();
+        uint8_t bytes[MOST];
+        size_t n = ref_group(&st, bytes);
+        for (int damage = (int)pick(0, 3); damage > 0; damage--)
+            switch (pick(0, 3)) {
+            case 0:
+                bytes[random64() % n] = (uint8_t)random64();
+                break;
+            case 1:
+                bytes[random64() % n] ^= (uint8_t)(1 << pick(0, 7));
+                break;
+            case 2:
+                n = (size_t)pick(1, (int64_t)n);
+                break;
+            default:
+                if (n < MOST)
+                    bytes[n++] = (uint8_t)random64();
+            }
+        try_forecast(bytes, n, (uint32_t)pick(0, 600));
+        switch (pick(0, 1)) {
+        case 0:
+            try_step(bytes, n, (int32_t)(pick(0, 9) == 0 ? pick(INT32_MIN, INT32_MAX) : pick(-1000000, 1000000)));
+            break;
+        default:
+            try_missing(bytes, n);
+        }
+    }
+}
+
+/* ---- one group for a long time: readings, missing ones, refused ones and forecasts */
+static void long_run(int model, int m, int steps) {
+    uint8_t bytes[MOST];
+    struct ref_state st = plain(model, m);
+    if (st.trend)
+        st.B = 256; /* with a long season a larger one is unstable, and most steps end in refusal 15 */
+    size_t n = ref_group(&st, bytes);
+    uint64_t accepted = 0;
+    for (int i = 0; i < steps; i++) {
+        int32_t reading = (int32_t)pick(-40, 40) + 300 * (m ? i % m : 0) - i % 5000;
+        switch (pick(0, 19)) {
+        case 0:
+            accepted += try_missing(bytes, n) == 0;
+            break;
+        case 1:
+            expect(try_step(bytes, n, reading < 0 ? -1000001 : 1000001) != 0, "a reading out of range was taken");
+            break;
+        case 2:
+            expect(try_forecast(bytes, n, (uint32_t)pick(1, 512)) == 0, "a forecast was refused");
+            break;
+        default:
+            accepted += try_step(bytes, n, reading) == 0;
+        }
+    }
+    ref_open(bytes, n, &st);
+    expect(st.count == accepted, "the count is not that of the calls accepted");
+    expect(accepted > (uint64_t)steps / 2, "most calls were refused");
+}
+
+int main(void) {
+    map_pages();
+    listed_cases();
+    cuts_and_commands();
+    operands();
+    damaged_groups(200000);
+    what = "a long run";
+    for (size_t i = 0; i < sizeof models / sizeof *models; i++)
+        if (models[i] < 4)
+            long_run(models[i], 0, 200000);
+        else
+            for (size_t j = 0; j < sizeof periods / sizeof *periods; j++)
+                long_run(models[i], periods[j], 100000);
+    printf("station: %lu calls, %lu failures\n", calls, failures);
+    return failures != 0;
+}
