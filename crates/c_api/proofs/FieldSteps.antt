@@ -1,11 +1,11 @@
 -- A call works on the numbers of the lent snapshot, read and written at their places: these are the numbers of its state, and what is written is the snapshot of the next one.
-use Prim.Native.Nat.{ℕ, suc, _+_, _-_, _%_, _≤_, _<_}
-use mathlib.Core.Path.{_≡_, refl, sym, ap, _∙_}
-use mathlib.Core.Bool.{Bool, true, false, not, cond, _||_}
+use Prim.Native.Nat.{ℕ, _+_, _-_, _%_, _≤_, _<_}
+use mathlib.Core.Path.{_≡_, refl, _∙_}
+use mathlib.Core.Bool.{Bool, true, false, cond, _||_}
 use mathlib.Core.List.{List}
 use native.Mathlib.Nat.{mod-lt}
 use native.Mathlib.Omega.{arith}
-use borrow.Author.Tests.{eq-eqb, ne-eqb, eqb-true, eqb-false}
+use borrow.Author.Tests.{eq-eqb, ne-eqb, eqb-false}
 use lib.Dec.{eqb}
 use lib.IntN.{ℤ, pos}
 use lib.ListN.{length, getD, set}
@@ -20,15 +20,14 @@ use Rattle.ets.specs.Steps.{residualOf, newLevel, newTrend, newSeason, newSeaso
 use Rattle.ets.specs.Forecasts.{seasonAt, forecastCode, forecastOf}
 use Rattle.ets.specs.Updates.{numbersOf}
 use Rattle.ets.specs.declared.Numbers.{Numbers}
-use Rattle.ets.proofs.UpdateLaws.{seasonal-is}
-use Rattle.snapshot.specs.Snapshots.{openCode, openOffset, decoded, encoded, sizeOf}
+use Rattle.snapshot.specs.Snapshots.{openCode, openOffset, decoded, encoded}
 use Rattle.snapshot.specs.Fields.{seasonValue, readScalars, scalarsAt, levelPut, seasonPut, positionPut}
 use Rattle.snapshot.specs.declared.fields.Scalars.{Scalars}
-use Rattle.snapshot.proofs.RoundTrip.{accepted-passes, length-decoded, accepted-size}
+use Rattle.snapshot.proofs.RoundTrip.{accepted-passes, accepted-size}
 use Rattle.snapshot.proofs.FieldLaws.{scalars-accepted, season-value, season-scalar}
 use Rattle.snapshot.proofs.Patches.{level-patch, season-patch, position-patch, leveled, seasoned}
 use Rattle.c_api.specs.LentSnapshots.{lentCode, lentStepCode, lentStepBytes, lentResidual, lentMissingCode, lentMissingBytes, lentForecastCode, lentForecast}
-use Rattle.c_api.proofs.LentLaws.{Lent, lent}
+use Rattle.c_api.proofs.LentLaws.{Lent}
 
 -- ---- the snapshot's rejection, as a call tests it
 pub opened-code : (d : List ℕ) → (readScalars d .code then unless (eqb (readScalars d .offset) (length d)) out-of-place) ≡ lentCode d

@@ -3,13 +3,12 @@ use Prim.Native.Nat.{ℕ, zero, suc}
 use mathlib.Core.Path.{_≡_, refl, sym, _∙_}
 use mathlib.Core.Bool.{Bool, true, false, cond}
 use mathlib.Core.List.{List, [], append-nil}
-use native.Mathlib.Nat.{le-refl}
 use native.Mathlib.Omega.{arith}
-use borrow.Author.Tests.{eq-eqb, eqb-true, le-leb}
+use borrow.Author.Tests.{eq-eqb, eqb-true}
 use lib.Dec.{eqb, eqb·suc-zero}
 use lib.IntN.{ℤ}
-use lib.ListN.{length, length-set, set, drop-of-length-le}
-use Rattle.state.specs.Rejections.{unless, _then_, answer, outcome, outcomeCode, out-of-place}
+use lib.ListN.{length, length-set, set}
+use Rattle.state.specs.Rejections.{unless, _then_, answer, out-of-place}
 use Rattle.state.specs.Models.{hasSeason}
 use Rattle.state.specs.States.{check}
 use Rattle.state.specs.declared.State.{State}
@@ -19,8 +18,8 @@ use Rattle.state.proofs.Tests.{then-zero, unless-zero}
 use Rattle.ets.specs.Steps.{stepCode, missingCode, residualOf, afterReading, afterMissing, newSeason, newSeasonal, step, missing}
 use Rattle.ets.specs.Forecasts.{forecastCode, forecastOf}
 use Rattle.ets.proofs.Kept.{reading-kept, missing-kept}
-use Rattle.snapshot.specs.Snapshots.{openCode, openOffset, decoded, encoded, read, sizeOf, saveCode, savedBytes}
-use Rattle.snapshot.proofs.RoundTrip.{read-back, length-encoded, accepted-size, outcome-code, stored}
+use Rattle.snapshot.specs.Snapshots.{openCode, openOffset, decoded, encoded, sizeOf}
+use Rattle.snapshot.proofs.RoundTrip.{read-back, accepted-size}
 use Rattle.c_api.specs.LentSnapshots.{lentCode, lentStepCode, lentStepBytes, lentResidual, lentMissingCode, lentMissingBytes, lentForecastCode, lentForecast}
 
 -- ---- what an answer tells
@@ -37,17 +36,6 @@ answer-accepted (suc k) v e q =
     let z : _≡_ {A = ℕ} 0 1 = cc in
     absurd (omega arith)
 
-pub outcome-rejected : (k n : ℕ) → outcome k ≡ outcome-of.Rejected n → (k ≡ n) × (k ≡ 0 → ⊥)
-outcome-rejected zero n e = let z : _≡_ {A = ℕ} 0 1 = cc in absurd (omega arith)
-outcome-rejected (suc k) n e =
-    let q : outcome-of.Rejected (suc k) ≡ outcome-of.Rejected n = rw (eqb·suc-zero k) at e in
-    (cc, λ z. omega arith)
-
--- ---- what `read` gives of a lent slice, as a call tests it
-pub opened-code : (d : List ℕ) → (outcomeCode (read d .outcome) then unless (eqb (read d .offset) (length d)) out-of-place) ≡ lentCode d
-unfolding read lentCode
-opened-code d = rw (outcome-code (openCode d))
-
 -- the slice holds one snapshot and nothing after it
 pub record Lent (d : List ℕ) : Type 0 where
   pub opens : openCode d ≡ 0
@@ -59,18 +47,6 @@ lent d h =
     let c = then-zero (openCode d) (unless (eqb (openOffset d) (length d)) out-of-place) h in
     let e = eqb-true (openOffset d) (length d) (unless-zero (eqb (openOffset d) (length d)) 2 (c .1)) in
     record { opens = c .0; whole = sym (accepted-size d (c .0) .0) ∙ e }
-
-pub opened-state : (d : List ℕ) → lentCode d ≡ 0 → read d .state ≡ decoded d
-unfolding read
-opened-state d h = rw (lent d h .opens)
-
--- saving over a snapshot of the same length leaves the new one
-pub rewritten : (s : State) (d : List ℕ) → check s ≡ 0 → sizeOf (s .period) ≡ length d → savedBytes s d ≡ encoded s
-unfolding savedBytes saveCode
-rewritten s d h e =
-    let n = length-encoded s ∙ e in
-    rw (h, le-leb (sizeOf (s .period)) (length d) (rw e (le-refl (length d))))
-    (stored d (encoded s) (rw n (le-refl (length d))) ∙ rw (n, drop-of-length-le d (le-refl (length d))) (append-nil (encoded s)))
 
 -- ---- the snapshot of a state that the checks let pass, lent by itself
 lent-encoded : (s : State) → length (s .seasonal) ≡ 48 → check s ≡ 0 → (lentCode (encoded s) ≡ 0) × (decoded (encoded s) ≡ s)

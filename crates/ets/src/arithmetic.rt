@@ -11,7 +11,7 @@ ghost use lib.IntN.{pos, _*ℤ_};
 ghost use Rattle.integers.specs.Bounds.{Within};
 ghost use Rattle.state.specs.Fixed.{R, isReading};
 ghost use Rattle.ets.specs.Steps.{nextIndex};
-ghost use Rattle.ets.specs.Updates.{Gains, Ranges, updated, notTaken, staysBy, readingCode, kept, readingUpdate};
+ghost use Rattle.ets.specs.Updates.{Gains, Ranges, updated, notTaken, staysBy, readingCode, readingUpdate};
 
 // R(v): the sum before the shift makes it round to nearest, halves up.
 fn round(v: i64) -> i64

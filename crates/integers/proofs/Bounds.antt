@@ -1,15 +1,15 @@
 -- Orders and bounds of ℤ: laws that need a product of two unknowns, which omega does not find by itself, and the laws of `Within`.
-use mathlib.Core.Path.{_≡_, refl, sym, ap, _∙_, subst}
-use Prim.Native.Nat.{ℕ, suc, _+_, _*_, _-_, _^_, _≤_, _<_}
+use mathlib.Core.Path.{_≡_, ap}
+use Prim.Native.Nat.{ℕ, _+_, _*_, _-_, _^_, _≤_, _<_}
 use native.Mathlib.Nat.{mul-le-mul-left, mul-le-mul-right}
 use native.Mathlib.Omega.{arith}
-use lib.IntN.{ℤ, pos, negsuc, negℤ, _+ℤ_, _-ℤ_, _*ℤ_}
+use lib.IntN.{ℤ, pos, negℤ, _+ℤ_, _-ℤ_, _*ℤ_}
 use lib.Signed.{_≤ℤ_, _<ℤ_}
 use mathlib.Core.Logic.{_↔_}
 use mir.Syntax.{Width}
 use mir.Val.{SFits, hbits}
 use Rattle.integers.specs.Bounds.{Within}
-use Rattle.integers.proofs.Difference.{_⊖_, diff, ints, known, up, dn, sum, product}
+use Rattle.integers.proofs.Difference.{_⊖_, diff, known, up, dn}
 
 -- the orders, at a precedence below + and * (that of `_≤ℤ_` is above them, so that `x +ℤ z ≤ℤ y` is read `x +ℤ (z ≤ℤ y)`)
 infix 4 _≤ᶻ_ _<ᶻ_

@@ -1,12 +1,12 @@
 -- A ring equation over ℤ decided by computing: expressions as data, a normaliser that is proved, and `ring`.
 -- For identities with many signed factors, where `simp diff (omega arith)` meets omega's bound of 64 monomials.
-use mathlib.Core.Path.{_≡_, refl, sym, ap, _∙_, subst}
+use mathlib.Core.Path.{_≡_, refl, sym, ap, _∙_}
 use mathlib.Core.Bool.{Bool, true, false, _&&_}
 use mathlib.Core.List.{List, [], _∷_}
 use Prim.Native.Nat.{ℕ, zero, suc}
 use native.Mathlib.Omega.{arith}
 use lib.Dec.{T, eqb, leb, eqb→eq}
-use lib.IntN.{ℤ, pos, negsuc, negℤ, _+ℤ_, _-ℤ_, _*ℤ_}
+use lib.IntN.{ℤ, pos, negsuc, negℤ, _+ℤ_, _*ℤ_}
 use Rattle.integers.proofs.Difference.{diff, known}
 
 infixl 6 _⊕_

@@ -1,16 +1,16 @@
 -- Laws of `fromBytes` and `toBytes` at every width, and of runs of stores.
 use Prim.Native.Nat.{ℕ, zero, suc, _+_, _*_, _-_, _/_, _%_, _^_, _≤_, _<_}
-use mathlib.Core.Path.{_≡_, refl, sym, ap, _∙_}
+use mathlib.Core.Path.{_≡_, refl, ap}
 use mathlib.Core.List.{List, [], _∷_, _++_}
 use native.Mathlib.Nat.{le-refl, add-zero, add-suc, suc-add, pow-suc, div-lt-iff-lt-mul, one-le-pow}
 use native.Mathlib.Omega.{arith}
 use lib.Arith.{digits-div, digits-mod}
 use lib.Dec.{lit<}
 use lib.IntN.{ℤ}
-use lib.ListN.{length, length-drop, take, drop, getD, set, take-append-drop}
-use lib.Seq.{drop-cons, getD-drop, getD-take, sets, take-at, take-all, length-take-le}
+use lib.ListN.{length, length-drop, take, drop, getD, set}
+use lib.Seq.{drop-cons, getD-drop, sets, take-all, length-take-le}
 use mir.Syntax.{Width, w8, w16, w32, w64, w128}
-use mir.Val.{Fits, SFits, bits, bytes, toZ, ofZ}
+use mir.Val.{Fits, SFits, bits, bytes, ofZ}
 use mir.ValLaws.{ofZ-fits, toZ-ofZ, ofZ-toZ}
 use Rattle.snapshot.specs.Bytes.{fromBytes, toBytes, unsignedAt, signedAt, signedBytes}
 

@@ -1,18 +1,17 @@
 -- Writing a level, a season value or a position into the snapshot of a state gives the snapshot of the state that has them.
 use Prim.Native.Nat.{ℕ, zero, suc, _+_, _*_, _≤_, _<_}
 use mathlib.Core.Path.{_≡_, refl, sym, ap, _∙_}
-use mathlib.Core.Bool.{Bool, true, false, cond, _&&_}
 use mathlib.Core.Logic.{⊎-elim}
 use mathlib.Core.List.{List, [], _∷_, _++_, append-assoc}
 use native.Mathlib.Nat.{zero-add, le-of-suc-le-suc, eq-or-lt-of-le, not-suc-le-zero}
 use native.Mathlib.Omega.{arith}
-use borrow.Author.Tests.{lt-ltb, le-leb, eq-eqb, ne-eqb}
+use borrow.Author.Tests.{lt-ltb, le-leb}
 use lib.IntN.{ℤ, pos}
-use lib.ListN.{length, length-append, take, drop, getD, set, take-append-drop}
+use lib.ListN.{length, length-append, getD, set}
 use lib.Seq.{sets, sets-eq, take-append-add, drop-append-add, take-append-le, drop-append-le, drop-at, take-all, getD-set-same, getD-set-other}
 use Rattle.state.specs.declared.State.{State}
 use Rattle.snapshot.specs.Bytes.{toBytes, signedBytes}
-use Rattle.snapshot.specs.Snapshots.{openCode, openOffset, decoded, modelBytes, levelBytes, seasonBytes, seasonsBytes, positionBytes, encoded, sizeOf}
+use Rattle.snapshot.specs.Snapshots.{openCode, openOffset, decoded, modelBytes, levelBytes, seasonBytes, seasonsBytes, positionBytes, encoded}
 use Rattle.snapshot.specs.Fields.{levelPut, seasonPut, positionPut}
 use Rattle.snapshot.proofs.ByteLaws.{AreBytes}
 use Rattle.snapshot.proofs.RoundTrip.{length-model, length-level, length-season, length-seasons, length-encoded, saved-back}

@@ -1,15 +1,15 @@
 -- Both round trips of a snapshot: reading what was saved gives the state back, and saving what was read writes the same bytes.
-use Prim.Native.Nat.{ℕ, zero, suc, _+_, _-_, _*_, _/_, _%_, _^_, _≤_, _<_}
-use mathlib.Core.Path.{_≡_, refl, sym, ap, subst, _∙_}
-use mathlib.Core.Bool.{Bool, true, false, not, cond, _&&_}
+use Prim.Native.Nat.{ℕ, zero, suc, _+_, _-_, _*_, _/_, _%_, _≤_, _<_}
+use mathlib.Core.Path.{_≡_, refl, sym, ap, _∙_}
+use mathlib.Core.Bool.{Bool, true, false, not, cond}
 use mathlib.Core.Logic.{⊎-elim}
-use mathlib.Core.List.{List, [], _∷_, _++_, append-assoc}
+use mathlib.Core.List.{List, _∷_, _++_, append-assoc}
 use native.Mathlib.Nat.{le-refl, zero-add, add-zero, le-of-suc-le-suc, eq-or-lt-of-le, not-suc-le-zero, lt-of-le-of-lt}
 use native.Mathlib.Omega.{arith}
 use borrow.Author.Tests.{eqb-true, ltb-true, ltb-false, leb-true, lt-ltb, le-ltb, le-leb}
 use lib.Dec.{lit<, eqb, ltb, leb, eqb·suc-zero}
 use lib.IntN.{ℤ, pos}
-use lib.ListN.{length, length-append, length-drop, length-replicate, length-set, getD-replicate, take, drop, getD, set, replicate, take-append-drop}
+use lib.ListN.{length, length-append, length-drop, length-set, getD-replicate, take, drop, getD, replicate, take-append-drop}
 use lib.Seq.{getD-drop, drop-drop, drop-at, take-at, drop-cons, take-suc, set-at, length-take-le, append-snoc, ext-getD, getD-set-same, getD-set-other, take-add, sets, sets-eq}
 use mir.Syntax.{w64}
 use mir.Val.{SFits, ofZ}

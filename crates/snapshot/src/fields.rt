@@ -8,7 +8,6 @@ use super::saving::write_position;
 use super::saving::write_season;
 ghost use mathlib.Core.Path.{_≡_};
 ghost use Prim.Native.Nat.{_*_, _+_};
-ghost use lib.ListN.{length, getD};
 ghost use lib.Dec.{eqb};
 ghost use lib.IntN.{pos};
 ghost use mathlib.Core.Bool.{cond};

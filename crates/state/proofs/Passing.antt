@@ -1,7 +1,7 @@
 -- What a state has that the checks let pass, and that what has it passes.
-use Prim.Native.Nat.{ℕ, zero, suc, _+_, _<_, _≤_}
-use mathlib.Core.Path.{_≡_, refl, sym}
-use mathlib.Core.Bool.{Bool, true, false, not, cond, _&&_}
+use Prim.Native.Nat.{ℕ, _<_, _≤_}
+use mathlib.Core.Path.{_≡_}
+use mathlib.Core.Bool.{Bool, true, false, cond, _&&_}
 use native.Mathlib.Omega.{arith}
 use lib.Dec.{eqb, ltb, leb}
 use lib.IntN.{ℤ, pos, negsuc}
@@ -11,9 +11,9 @@ use borrow.Author.Tests.{ltb-true, leb-true, eqb-true, eq-eqb, ne-eqb, le-ltb, n
 use Rattle.integers.specs.Bounds.{Within}
 use Rattle.integers.proofs.Difference.{ints}
 use Rattle.integers.proofs.Bounds.{within-zero}
-use Rattle.state.specs.Rejections.{unless, _then_}
+use Rattle.state.specs.Rejections.{_then_}
 use Rattle.state.specs.Fixed.{inRange, isReading, isZero, maxCount}
-use Rattle.state.specs.Models.{trendOf, seasonOf, hasTrend, hasSeason, validModel, periodOk, gainOk, dampingOk, parametersOk}
+use Rattle.state.specs.Models.{trendOf, hasTrend, hasSeason, validModel, periodOk, gainOk, dampingOk}
 use Rattle.state.specs.States.{trendOk, cellOk, seasonalOk, indexOk, countOk, check}
 use Rattle.state.specs.declared.State.{State}
 use Rattle.state.proofs.Tests.{both, unless-zero, then-zero, zero-is, allBelow-at}

@@ -1,6 +1,6 @@
 -- Document 01, "Grains and states" and R of "One step". Values are whole numbers of 1/65536 of a reading unit: the paper's grain, a fixed-point unit with 16 fraction bits.
 use Prim.Native.Nat.{ℕ}
-use mathlib.Core.Bool.{Bool, true, false, _&&_}
+use mathlib.Core.Bool.{Bool, false, _&&_}
 use lib.Dec.{eqb}
 use lib.IntN.{ℤ, pos, negsuc, natAbs, _+ℤ_}
 use lib.Signed.{leZ, shrZ}

@@ -7,7 +7,7 @@ use lib.IntN.{ℤ, pos}
 use lib.ListN.{getD}
 use Rattle.state.specs.Rejections.{unless, _then_, bad-model, bad-period, bad-parameter, bad-value, bad-position}
 use Rattle.state.specs.Fixed.{inRange, isZero, maxCount}
-use Rattle.state.specs.Models.{trendOf, hasTrend, hasSeason, validModel, periodOk, parametersOk}
+use Rattle.state.specs.Models.{hasTrend, validModel, periodOk, parametersOk}
 use Rattle.state.specs.declared.State.{State}
 
 -- b: in range, and 0 without trend

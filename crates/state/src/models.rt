@@ -1,6 +1,5 @@
 // The model byte, taken apart by masks and shifts and put together again.
 ghost use mathlib.Core.Path.{_≡_};
-ghost use Prim.Native.Nat.{_+_, _*_};
 ghost use Rattle.state.specs.Models.{trendOf, seasonOf, validModel};
 
 pub fn trend_of(model: u8) -> u8

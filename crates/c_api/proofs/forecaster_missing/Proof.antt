@@ -1,10 +1,9 @@
-use mathlib.Core.Path.{_≡_, refl, sym, ap, _∙_}
+use mathlib.Core.Path.{_≡_, sym, ap, _∙_}
 use mathlib.Core.List.{List}
 use Prim.Native.Nat.{ℕ, _+_}
 use native.Mathlib.Omega.{arith}
 use borrow.Author.Tests.{eq-eqb, ne-eqb}
 use Rattle.state.specs.Fixed.{maxCount}
-use Rattle.state.specs.States.{check}
 use Rattle.state.proofs.Passing.{bounded}
 use Rattle.ets.specs.Steps.{missingCode, nextIndex, afterMissing}
 use Rattle.ets.proofs.UpdateLaws.{missing-room}

@@ -4,8 +4,8 @@ use mathlib.Core.Bool.{true}
 use mir.Facts.{toZ-ofZ}
 use borrow.Author.Tests.{eq-eqb, ne-eqb}
 use Rattle.integers.specs.Bounds.{Within}
-use Rattle.state.specs.Fixed.{isReading, maxCount}
-use Rattle.state.specs.Rejections.{unless, bad-reading, count-full}
+use Rattle.state.specs.Fixed.{isReading}
+use Rattle.state.specs.Rejections.{unless, bad-reading}
 use Rattle.state.proofs.Passing.{is-reading}
 use Rattle.state.proofs.Tests.{unless-zero, then-zero}
 use Rattle.ets.specs.Updates.{readingCode, readingUpdate, updated}

@@ -1,4 +1,4 @@
-use mathlib.Core.Path.{_≡_, refl, sym, ap, _∙_}
+use mathlib.Core.Path.{_≡_, sym, _∙_}
 use Prim.Native.Nat.{_≤_}
 use native.Mathlib.Omega.{arith}
 use lib.IntN.{_+ℤ_}
@@ -10,7 +10,7 @@ use Rattle.integers.proofs.Difference.{back}
 use Rattle.integers.proofs.Bounds.{within-add, within-fits}
 use Rattle.state.specs.States.{check}
 use Rattle.state.proofs.Passing.{bounded}
-use Rattle.ets.specs.Forecasts.{trendLine, seasonAt, forecastOf, forecast}
+use Rattle.ets.specs.Forecasts.{forecastOf, forecast}
 use Rattle.ets.proofs.ForecastLaws.{forecast-ready}
 use borrow.Author.Needs.{needs}
 use Rattle.ets.proofs.forecasts.forecast.Statement.{statement}

@@ -15,7 +15,7 @@ use Rattle.state.specs.Rejections.{unless, bad-parameter, bad-value}
 use Rattle.state.specs.Fixed.{inRange}
 use Rattle.state.proofs.Tests.{both, unless-zero, then-zero}
 use Rattle.state.proofs.Passing.{in-range}
-use Rattle.ets.specs.Forecasts.{trendLine, horizonOk, forecastFromCode, forecastFrom}
+use Rattle.ets.specs.Forecasts.{horizonOk, forecastFromCode, forecastFrom}
 use Rattle.ets.proofs.ForecastLaws.{horizon-in}
 use borrow.Author.Needs.{needs}
 use Rattle.ets.proofs.forecasts.forecast_from.Statement.{statement}

@@ -1,8 +1,7 @@
-use mathlib.Core.Path.{_≡_, refl, sym, ap, _∙_}
-use Prim.Native.Nat.{ℕ}
+use mathlib.Core.Path.{_≡_, sym, ap, _∙_}
 use lib.IntN.{ℤ, pos}
 use lib.ListN.{getD}
-use mir.Syntax.{w32, w64}
+use mir.Syntax.{w64}
 use mir.Val.{toZ, ofZ}
 use mir.Facts.{toZ-ofZ}
 use Rattle.integers.proofs.Difference.{back}
@@ -13,7 +12,7 @@ use Rattle.ets.specs.Steps.{residualOf, stepCode}
 use Rattle.ets.specs.Updates.{stored}
 use Rattle.ets.specs.declared.Update.{Update}
 use Rattle.ets.proofs.StepLaws.{step-accepted, step-rejected, step-unchecked}
-use Rattle.ets.proofs.UpdateLaws.{readNumbers, newNumbers, read-code, read-is, stored-is, step-room}
+use Rattle.ets.proofs.UpdateLaws.{readNumbers, read-code, read-is, stored-is, step-room}
 use borrow.Author.Needs.{needs}
 use Rattle.ets.proofs.steps.step.Statement.{statement}
 use Rattle.ets.proofs.steps.step.Tie as tie

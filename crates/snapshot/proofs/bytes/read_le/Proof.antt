@@ -6,7 +6,7 @@ use native.Mathlib.Nat.{le-refl, sub-self, sub-zero, add-zero, pow-suc, pow-le-p
 use native.Mathlib.Omega.{arith}
 use lib.Dec.{lit<}
 use lib.ListN.{take, drop, getD}
-use Rattle.snapshot.specs.Bytes.{fromBytes, unsignedAt}
+use Rattle.snapshot.specs.Bytes.{fromBytes}
 use Rattle.snapshot.proofs.ByteLaws.{fromBytes-more}
 use Rattle.snapshot.proofs.bytes.read_le.Statement.{statement}
 use Rattle.snapshot.proofs.bytes.read_le.Tie as tie

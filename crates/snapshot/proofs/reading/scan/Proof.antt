@@ -1,5 +1,5 @@
 -- `snapshot::reading::scan` meets its contract: each command is finished before the next is looked at.
-use Prim.Native.Nat.{_+_, _*_, _≤_}
+use Prim.Native.Nat.{_+_, _≤_}
 use mathlib.Core.Path.{sym, _∙_}
 use native.Mathlib.Omega.{arith}
 use lib.ListN.{length, getD}

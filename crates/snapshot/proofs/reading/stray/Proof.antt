@@ -1,5 +1,4 @@
 -- `snapshot::reading::stray` meets its contract.
-use mathlib.Core.Path.{sym, _∙_}
 use borrow.Author.Needs.{needs}
 use Rattle.snapshot.proofs.reading.stray.Statement.{statement}
 use Rattle.snapshot.proofs.reading.stray.Tie as tie
