@@ -1,0 +1,36 @@
+// Operands of 16 and 32 bits, low byte first, where the stream has so many bytes.
+ghost use mathlib.Core.Path.{_≡_};
+ghost use Prim.Native.Nat.{_+_, _≤_, _<_};
+ghost use lib.ListN.{length};
+ghost use mir.Syntax.{w32};
+ghost use mir.Val.{toZ};
+ghost use Rattle.snapshot.specs.Bytes.{unsignedAt};
+
+pub fn read_u16(s: &[u8], at: usize) -> u32
+    requires { ⌜ at + 2 ≤ length (now s) ⌝ }
+    ensures { λ r. ⌜ (r ≡ unsignedAt (now (s .entry)) at 2) × (r < 65536) ⌝ }
+{
+    let low = s[at] as u32;
+    let high = s[at + 1] as u32;
+    low + 256 * high
+}
+
+pub fn read_u32(s: &[u8], at: usize) -> u32
+    requires { ⌜ at + 4 ≤ length (now s) ⌝ }
+    ensures { λ r. ⌜ r ≡ unsignedAt (now (s .entry)) at 4 ⌝ }
+{
+    read_u16(s, at) + 65536 * read_u16(s, at + 2)
+}
+
+// Signed, in two's complement.
+pub fn read_i32(s: &[u8], at: usize) -> i32
+    requires { ⌜ at + 4 ≤ length (now s) ⌝ }
+    ensures { λ r. ⌜ r ≡ toZ w32 (unsignedAt (now (s .entry)) at 4) ⌝ }
+{
+    let n = read_u32(s, at);
+    if n < 0x8000_0000 {
+        n as i32
+    } else {
+        -1 - ((u32::MAX - n) as i32)
+    }
+}

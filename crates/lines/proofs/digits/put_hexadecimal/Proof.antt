@@ -1,0 +1,77 @@
+use borrow.Author.Needs.{needs}
+use mathlib.Core.Path.{_≡_, refl, sym, ap, _∙_}
+use Prim.Native.Nat.{ℕ, suc, _+_, _*_, _-_, _^_, _≤_, _<_}
+use mathlib.Core.List.{List}
+use native.Mathlib.Nat.{add-zero}
+use native.Mathlib.Omega.{arith}
+use lib.ListN.{length, length-set, drop}
+use lib.Seq.{sets, drop-length}
+use Rattle.lines.specs.Lines.{hexadecimal}
+use Rattle.lines.proofs.DigitLaws.{hex-more}
+use Rattle.lines.proofs.digits.put_hexadecimal.Statement.{statement}
+use Rattle.lines.proofs.digits.put_hexadecimal.Tie as tie
+
+abbrev Inv-loop : tie.InvT-loop
+Inv-loop d₀ at s i₀ d i = (length d ≡ length d₀) × (i ≤ length s) × (sets d (at + 2 * i) (hexadecimal (drop i s)) ≡ sets d₀ at (hexadecimal s))
+
+abbrev μ-loop : tie.MeasureT-loop
+μ-loop d₀ at s i₀ d i = length s - i
+
+loop-holds : tie.Need-loop-holds Inv-loop μ-loop
+loop-holds c = (search needs, search needs, rw add-zero)
+
+mul-put-hex-byte : tie.Need-mul-put-hex-byte Inv-loop μ-loop
+mul-put-hex-byte c = search needs
+
+add-put-hex-byte : tie.Need-add-put-hex-byte Inv-loop μ-loop
+add-put-hex-byte c = search needs
+
+shared-slice-read-put-hex-byte : tie.Need-shared-slice-read-put-hex-byte Inv-loop μ-loop
+shared-slice-read-put-hex-byte c = search needs
+
+put-hex-byte-requires : tie.Need-put-hex-byte-requires Inv-loop μ-loop
+put-hex-byte-requires c κs = search needs
+
+add-i : tie.Need-add-i Inv-loop μ-loop
+add-i c = search needs
+
+loop-less : tie.Need-loop-less Inv-loop μ-loop
+loop-less c = search needs
+
+loop-again : tie.Need-loop-again Inv-loop μ-loop
+loop-again c = (search needs, search needs, rw (c .before .before .put-hex-byte .ensures) (hex-more _ _ _ _ (c .before .before .before .before .before .loop-test .taken) ∙ c .before .before .before .before .before .before .loop .inv .2))
+
+mul-result : tie.Need-mul-result Inv-loop μ-loop
+mul-result c = search needs
+
+add-result : tie.Need-add-result Inv-loop μ-loop
+add-result c = search needs
+
+same-length : tie.Need-same-length Inv-loop μ-loop
+same-length c = search needs
+
+returns : tie.Need-returns Inv-loop μ-loop
+unfolding hexadecimal
+returns c =
+    let s : List ℕ = c .before .before .before .before .args .s .now in
+    let z : c .before .loop .i ≡ length s = omega arith in
+    (omega arith, rw (z, drop-length s) at (c .before .loop .inv .2))
+
+pub put-hexadecimal-spec : {M : Type 1} → statement M
+put-hexadecimal-spec =
+    tie.close
+    (tie.spec
+    Inv-loop
+    μ-loop
+    loop-holds
+    mul-put-hex-byte
+    add-put-hex-byte
+    shared-slice-read-put-hex-byte
+    put-hex-byte-requires
+    add-i
+    loop-less
+    loop-again
+    mul-result
+    add-result
+    same-length
+    returns)

@@ -1,0 +1,72 @@
+-- `lines::digits::put_signed` meets its contract.
+-- Assumes nothing.
+use borrow.Author.Needs.{needs}
+use Prim.Native.Nat.{ℕ, _+_}
+use mathlib.Core.Path.{_≡_, sym, ap, _∙_}
+use mathlib.Core.List.{[], _∷_}
+use native.Mathlib.Omega.{arith}
+use lib.IntN.{natAbs}
+use lib.ListN.{length}
+use lib.Signed.{ltZ}
+use mir.Syntax.{w64}
+use mir.ValLaws.{toZ-ofZ}
+use Rattle.snapshot.proofs.ByteLaws.{follow}
+use Rattle.lines.specs.Lines.{decimal, signedDecimal}
+use Rattle.lines.proofs.DigitLaws.{signed-negative, signed-nonnegative}
+use Rattle.lines.proofs.digits.put_signed.Statement.{statement}
+use Rattle.lines.proofs.digits.put_signed.Tie as tie
+
+magnitude-requires : tie.Need-magnitude-requires
+magnitude-requires c κs = search needs
+
+-- what is to be written of a negative number, and of another
+minus : (c : tie.Then1) → signedDecimal (c .before .before .before .args .z) ≡ 45 ∷ decimal (c .before .magnitude .result)
+minus c =
+    let e = toZ-ofZ w64 (c .before .before .before .args .z) (c .before .before .before .fits .z) in
+    rw (c .before .magnitude .ensures, e) (signed-negative (c .before .before .before .args .z) (rw e at (c .if1 .taken)))
+
+plain : (c : tie.Else1) → signedDecimal (c .before .before .before .args .z) ≡ decimal (c .before .magnitude .result)
+plain c =
+    let e = toZ-ofZ w64 (c .before .before .before .args .z) (c .before .before .before .fits .z) in
+    rw (c .before .magnitude .ensures, e) (signed-nonnegative (c .before .before .before .args .z) (rw e at (c .if1 .left)))
+
+put-byte-requires : tie.Need-put-byte-requires
+put-byte-requires c κs = omega (arith, ap length (minus (c .before)))
+
+put-decimal-requires : tie.Need-put-decimal-requires
+put-decimal-requires c κs = omega (arith, ap length (minus (c .before .before .before .before .before)))
+
+same-length : tie.Need-same-length
+same-length c = search needs
+
+returns : tie.Need-returns
+returns c =
+    let s = c .before .before .before .before .before .before .before .before .before .before .before in
+    let x = c .before .before .put-decimal in
+    let y = c .before .before .before .before .before .before .put-byte in
+    rw (minus (c .before .before .before .before .before .before .before .before)) (
+      omega arith,
+      follow (s .args .d .now) (s .args .at) (45 ∷ []) (decimal _) (y .last .0) (x .last .0) (y .result) (y .ensures .1) (x .ensures .1) (omega arith),
+    )
+
+put-decimal-requires-2 : tie.Need-put-decimal-requires-2
+put-decimal-requires-2 c κs = omega (arith, ap length (plain (c .before)))
+
+same-length-2 : tie.Need-same-length-2
+same-length-2 c = search needs
+
+returns-2 : tie.Need-returns-2
+returns-2 c = rw (plain (c .before .before .before .before)) (c .before .before .put-decimal2 .ensures)
+
+pub put-signed-spec : {M : Type 1} → statement M
+put-signed-spec =
+    tie.close
+    (tie.spec
+    magnitude-requires
+    put-byte-requires
+    put-decimal-requires
+    same-length
+    returns
+    put-decimal-requires-2
+    same-length-2
+    returns-2)

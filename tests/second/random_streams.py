@@ -1,0 +1,139 @@
+"""Random streams: nearly valid ones, with numbers near the edges of their ranges, and damaged ones."""
+
+from dataclasses import replace
+
+import forecaster as f
+from forecaster import State
+from streams import C, COUNTS, MODELS, UNKNOWN, V
+
+EDGES = {
+    0x10: [
+        [0, 1, 2, 3, 4, 5, 6, 7, 8, 255],
+        [0, 1, 2, 3, 47, 48, 49, 255],
+        *[[0, 1, 2, 32767, 32768, 65535, 65536, 65537, 2**32 - 1]] * 4,
+    ],
+    0x11: [[0, 1, -1, V - 1, V, V + 1, -V, -V - 1, 2**63 - 1, -(2**63)]] * 2,
+    0x12: [[0, 1, 2, 46, 47, 48, 255], [0, 1, -1, V - 1, V, V + 1, -V, -V - 1, 2**63 - 1, -(2**63)]],
+    0x13: [[0, 1, 2, 47, 48, 255], list(COUNTS)],
+    0x20: [[0, 1, -1, 999_999, 1_000_000, 1_000_001, -1_000_000, -1_000_001, f.SENTINEL, 2**31 - 1]],
+    0x30: [[0, 1, 2, 47, 48, 49, 511, 512, 513, 65535]],
+    0x31: [[0, 1, 2, 48, 511, 512, 513, 65535], [0, 1, 65536, 2**32 - 1]],
+    0x21: [],
+    0x40: [],
+}
+
+
+def magnitude(rng, limit):
+    """A number from 0 to the limit whose size is random too."""
+    return rng.choice([0, 1, limit, limit - 1, rng.randint(0, limit), rng.randint(0, limit) >> rng.randint(0, 39)])
+
+
+def signed(rng, limit):
+    return rng.choice([1, -1]) * magnitude(rng, limit)
+
+
+def parameter(rng):
+    return rng.choice([0, 1, 32768, 65535, 65536, rng.randint(0, 65536), rng.randint(0, 65536) >> rng.randint(0, 15)])
+
+
+def state(rng):
+    """A state that passes the checks."""
+    model = rng.choice(MODELS)
+    trend, seasonal = model & 3, model & 4 != 0
+    m = rng.choice([2, 3, rng.randint(2, 12), 24, 48]) if seasonal else 0
+    limit = rng.choice([10, 2**20, 2**27, V])
+    s = [signed(rng, limit) for _ in range(m)] + [0] * (f.CELLS - m)
+    return State(
+        model=model,
+        m=m,
+        A=parameter(rng),
+        B=parameter(rng) if trend else 0,
+        G=parameter(rng) if seasonal else 0,
+        F=[0, 65536, rng.choice([1, 32768, 65535, rng.randint(1, 65535)])][trend],
+        l=signed(rng, limit),
+        b=signed(rng, limit) if trend else 0,
+        s=tuple(s),
+        p=rng.choice([0, m - 1, rng.randint(0, m - 1)]) if m else 0,
+        count=rng.choice([0, 1, 2, C - rng.randint(0, 20), rng.randint(0, C), *[rng.randint(0, 1000)] * 7]),
+    )
+
+
+def command(rng, reading_limit):
+    """A command outside a group, with operands that pass."""
+    kind = rng.choice([0x20] * 6 + [0x21, 0x30, 0x30, 0x31, 0x40])
+    horizon = lambda: rng.choice([1, 2, 3, rng.randint(1, 60), rng.randint(1, 512), 512])
+    if kind == 0x20:
+        return (kind, signed(rng, reading_limit))
+    if kind == 0x30:
+        return (kind, horizon())
+    if kind == 0x31:
+        return (kind, horizon(), magnitude(rng, 2**32 - 1))
+    return (kind,)
+
+
+def commands(rng):
+    """One or more groups, each with commands after it; some of them are the group that a save would write there."""
+    found = []
+    for turn in range(rng.choice([1, 1, 1, 2, 3])):
+        x = None
+        if turn > 0 and rng.random() < 0.5:
+            x = f.play(b"".join(f.encode(*c) for c in found))[1]
+        found += list(f.group(x or state(rng)))
+        limit = rng.choice([3, 30, 3000, f.READING_LIMIT])
+        found += [command(rng, limit) for _ in range(rng.choice([0, 1, 3, 8, 20, 60]))]
+    return found
+
+
+def spoil_command(rng, found):
+    """Changes one command of the list: an operand to an edge, or the command left out, doubled, moved or put in."""
+    at = rng.randrange(len(found))
+    c = found[at]
+    kind = rng.randrange(8)
+    if kind < 4:
+        at = rng.choice([k for k, c in enumerate(found) if len(c) > 1])
+        c = list(found[at])
+        which = rng.randrange(1, len(c))
+        c[which] = rng.choice(EDGES[c[0]][which - 1])
+        found[at] = tuple(c)
+    elif kind == 4:
+        del found[at]
+    elif kind == 5:
+        found.insert(at, c)
+    elif kind == 6:
+        found.insert(rng.randrange(len(found) + 1), found.pop(at))
+    else:
+        new = rng.choice(list(f.OPERANDS))
+        found.insert(at, (new, *[rng.choice(edge) for edge in EDGES[new]]))
+
+
+def spoil_bytes(rng, data):
+    """Changes the bytes: one set, put in, left out, or the rest cut off."""
+    at = rng.randrange(len(data) + 1)
+    kind = rng.randrange(5)
+    byte = rng.choice(UNKNOWN + list(f.OPERANDS) + [rng.randrange(256)])
+    if kind == 0:
+        return data[:at]
+    if kind == 1:
+        return data[:at] + bytes([byte]) + data[at:]
+    if kind == 2:
+        return data[:at] + data[at + 1 :]
+    return data[:at] + bytes([byte]) + data[at + 1 :]
+
+
+def stream(rng):
+    """A random stream: three in ten are valid but for what the readings do, one in fifty is noise."""
+    if rng.random() < 0.02:
+        return bytes(rng.choice(list(f.OPERANDS) + [rng.randrange(256)]) for _ in range(rng.randrange(40)))
+    found = commands(rng)
+    way = rng.random()
+    if way < 0.45:
+        for _ in range(rng.choice([1, 1, 2])):
+            if found:
+                spoil_command(rng, found)
+    data = b"".join(f.encode(*c) for c in found)
+    if 0.45 <= way < 0.7:
+        for _ in range(rng.choice([1, 1, 2])):
+            data = spoil_bytes(rng, data)
+    if rng.random() < 0.002:
+        data += bytes([rng.choice([0x21, 0x40])]) * (rng.choice([65536, 65537]) - len(data))
+    return data

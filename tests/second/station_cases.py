@@ -1,0 +1,38 @@
+"""Document 01's station cases T1 to T12, of the second implementation."""
+
+import forecaster as f
+from forecaster import State
+from streams import cells
+
+
+def code(call, *arguments):
+    """The refusal's number, or 0."""
+    try:
+        call(*arguments)
+    except f.Rejected as r:
+        return r.code
+    return 0
+
+
+def hold():
+    first = State(A=32768)
+    straight = State(model=1, A=32768, B=16384, F=65536, b=65536)
+    seasonal = State(model=4, m=2, A=16384, G=32768, s=cells(65536, -65536))
+    after3 = f.step(straight, 3)[0]
+    after4 = f.step(State(model=2, F=32768, b=3), 0)[0]
+    after5 = f.step(seasonal, 5)[0]
+    after6 = f.missing(after5)
+    yield "T1", [f.R(v) for v in (32767, 32768, -32768, -32769)] == [0, 1, 0, -1]
+    yield "T2", f.step(first, 10)[0].l == 327680
+    yield "T3", (after3.l, after3.b, f.forecast(after3, 3)) == (131072, 98304, 425984)
+    yield "T4", (after4.l, after4.b, f.forecast(after4, 2)) == (2, 2, 4)
+    yield "T5", (after5.l, after5.s[0], after5.p) == (65536, 196608, 1)
+    yield "T5 forecasts", [f.forecast(after5, h) for h in (1, 2, 3)] == [0, 262144, 0]
+    yield "T6", after6 == State(4, 2, 16384, 0, 32768, 0, 65536, 0, cells(196608, -65536), 0, 2)
+    yield "T7", f.weight(straight, 3) == 11005853696
+    yield "T8", f.weight(seasonal, 3) == 6979321856
+    yield "T9", [code(f.check, State(model=3)), code(f.check, State(model=6, m=2, F=1))] == [5, 0]
+    yield "T10", [code(f.step, first, y) for y in (1_000_000, 1_000_001)] == [0, 13]
+    yield "T11 level", [code(f.check, State(l=l)) for l in (2**40, 2**40 + 1)] == [0, 9]
+    yield "T11 horizon", [code(f.forecast, first, h) for h in (512, 0, 513)] == [0, 11, 11]
+    yield "T12", code(f.step, State(model=1, F=65536, l=2**40, b=2**40), 1_000_000) == 15

@@ -1,0 +1,285 @@
+"""Streams of commands for the stored vectors: every model, the edges of every range, every refusal at every place where it
+can come, long runs, the longest inputs, saves reopened. Nothing here is random, so that the vectors can be made again.
+
+A stream is a list of commands (byte, operands ..) or of bytes, joined by `join`.
+"""
+
+from dataclasses import replace
+
+import forecaster as f
+from forecaster import State
+
+V, C = f.VALUE_LIMIT, f.COUNT_LIMIT
+WORD32 = 2**32 - 1
+LOW64, HIGH64 = -(2**63), 2**63 - 1
+
+UNKNOWN = [0x00, 0x01, 0x0F, 0x14, 0x1F, 0x22, 0x2F, 0x32, 0x3F, 0x41, 0x80, 0xFF]
+MODELS = [0, 1, 2, 4, 5, 6]
+
+
+def join(*parts):
+    return b"".join(p if isinstance(p, bytes) else f.encode(*p) for p in parts)
+
+
+def cells(*values):
+    return tuple(values) + (0,) * (f.CELLS - len(values))
+
+
+def nominal(model, m=2):
+    """A state of the model with every number that it allows away from 0."""
+    trend, seasonal = model & 3, model & 4 != 0
+    return State(
+        model=model,
+        m=m if seasonal else 0,
+        A=20000,
+        B=[0, 3000, 5000][trend],
+        G=9000 if seasonal else 0,
+        F=[0, 65536, 60000][trend],
+        l=1_234_567,
+        b=-54_321 if trend else 0,
+        s=cells(*[(-1) ** k * (7_000 + 999 * k) for k in range(m)]) if seasonal else cells(),
+        p=m - 1 if seasonal else 0,
+        count=12,
+    )
+
+
+def readings(n, start=21):
+    """A day's curve in whole numbers, with a missing reading now and then."""
+    return [(0x21,) if k % 11 == 7 else (0x20, start + (k * k) % 17 - k % 5) for k in range(n)]
+
+
+QUESTIONS = [(0x30, 1), (0x30, 2), (0x30, 7), (0x31, 1, 1), (0x31, 3, 4), (0x31, 9, WORD32), (0x40,)]
+
+
+def document():
+    """The listing of document 01 and the station cases T2 to T12 that a stream can show."""
+    first = State(A=32768)
+    yield join(f.group_bytes(first), (0x20, 10), (0x30, 2), (0x31, 2, 4))
+    straight = State(model=1, A=32768, B=16384, F=65536, b=65536)
+    yield join(f.group_bytes(straight), (0x31, 3, 1), (0x20, 3), (0x30, 3), (0x40,))
+    damped = State(model=2, F=32768, b=3)
+    yield join(f.group_bytes(damped), (0x20, 0), (0x30, 2), (0x40,))
+    seasonal = State(model=4, m=2, A=16384, G=32768, s=cells(65536, -65536))
+    asked = [(0x30, 1), (0x30, 2), (0x30, 3), (0x40,)]
+    yield join(f.group_bytes(seasonal), (0x31, 3, 1), (0x20, 5), *asked, (0x21,), *asked)
+    for model in (3, 6):
+        yield join((0x10, model, 2, 0, 0, 0, 1))
+    for y in (1_000_000, 1_000_001, -1_000_000, -1_000_001):
+        yield join(f.group_bytes(first), (0x20, y))
+    for l in (V, V + 1, -V, -V - 1):
+        yield f.group_bytes(State(l=l))
+    for h in (512, 0, 513, 1):
+        yield join(f.group_bytes(first), (0x30, h))
+    yield join(f.group_bytes(State(model=1, F=65536, l=V, b=V)), (0x20, 1_000_000))
+
+
+def models():
+    """Every model, with season lengths at both ends of their range."""
+    for model in MODELS:
+        for m in (2, 3, 7, 48) if model & 4 else (0,):
+            x = nominal(model, m)
+            yield join(f.group_bytes(x), *QUESTIONS, *readings(3 * max(m, 4)), *QUESTIONS, (0x30, 512), (0x31, 512, WORD32))
+            for p in (0, 1, m - 1) if m else (0,):
+                yield join(f.group_bytes(replace(x, p=p)), *[(0x30, h) for h in range(1, 6)], (0x30, m + 1), (0x30, 2 * m + 3))
+
+
+PARAMETERS = (0, 1, 32768, 65535, 65536, 65537, WORD32)
+VALUES = (0, 1, -1, V, V + 1, -V, -V - 1, HIGH64, LOW64)
+COUNTS = (0, 1, C - 1, C, C + 1, 2**64 - 1)
+
+
+def edges():
+    """Each number of a state at the edges of its range and just outside, for every model; the other numbers stay."""
+    for model in range(9):
+        for m in (0, 1, 2, 3, 48, 49, 255):
+            yield join((0x10, model, m, 5, 0, 0, [0, 65536, 1, 0][model & 3]))
+    for model in (7, 8, 16, 64, 128, 132, 255):
+        yield join((0x10, model, 0, 0, 0, 0, 0))
+    for model in MODELS:
+        x = nominal(model)
+        for name in "ABGF":
+            for value in PARAMETERS:
+                yield join(f.group_bytes(replace(x, **{name: value})), (0x31, 3, 1))
+        for name in "lb":
+            for value in VALUES:
+                yield join(f.group_bytes(replace(x, **{name: value})), (0x30, 1))
+        for value in VALUES if x.m else ():
+            for k in range(x.m):
+                s = list(x.s)
+                s[k] = value
+                yield join(f.group_bytes(replace(x, s=tuple(s))), (0x30, 1))
+        for p in (0, 1, 2, 3, 48, 255):
+            yield f.group_bytes(replace(x, p=p))
+        for count in COUNTS:
+            yield f.group_bytes(replace(x, count=count))
+    for m in (2, 47, 48):
+        yield f.group_bytes(replace(nominal(4, m), p=m - 1))
+        yield f.group_bytes(replace(nominal(4, m), p=m))
+
+
+def operands():
+    """The operands of the commands outside a group, at and past their edges."""
+    for model in MODELS:
+        group = f.group_bytes(nominal(model))
+        for y in (0, 1, -1, 999_999, 1_000_000, 1_000_001, -1_000_000, -1_000_001, f.SENTINEL, 2**31 - 1):
+            yield join(group, (0x20, y), (0x40,))
+        for h in (0, 1, 2, 511, 512, 513, 65535):
+            yield join(group, (0x30, h))
+            yield join(group, (0x31, h, 9))
+        for sigma2 in (0, 1, 65536, 2**31, WORD32):
+            yield join(group, (0x31, 512, sigma2))
+    most = dict(A=65536, F=65536, B=65536)
+    yield join(f.group_bytes(State(model=1, **most)), (0x31, 512, WORD32))
+    yield join(f.group_bytes(State(model=5, m=2, G=65536, **most)), (0x31, 512, WORD32))
+    for sign in (1, -1):
+        x = State(model=5, m=2, l=sign * V, b=sign * V, s=cells(sign * V, sign * V), **most)
+        yield join(f.group_bytes(x), (0x30, 1), (0x30, 512))
+        yield join(f.group_bytes(replace(x, model=6, F=65535)), (0x30, 1), (0x30, 512), (0x31, 512, WORD32))
+
+
+def order():
+    """Two or more refusals at once: the first in checking order is the one told."""
+    for bad in (3, 1), (3, 0), (0, 1), (4, 0), (0, 2):
+        yield join((0x10, *bad, 65537, 1, 1, 1))
+    yield join((0x10, 0, 0, 65537, 0, 0, 0), (0x20, 0))
+    group = f.group_bytes(State(model=4, m=2))
+    for place, value in (0, V + 1), (1, V + 1), (1, 0), (2, 0), (255, LOW64):
+        yield join(group[:36], (0x12, place, value))
+        yield join(group[:36], (0x12, 0, 0), (0x12, place, value))
+    full = f.group_bytes(State(model=1, F=65536, l=V, b=V, count=C))
+    for y in (1_000_001, 1_000_000, 0):
+        yield join(full, (0x20, y))
+        yield join(full[:-8], (C - 1).to_bytes(8, "little"), (0x20, y))
+    yield join(full, (0x30, 0))
+    yield join(full, (0x31, 513, 0))
+    # The count's last step, and every command at the count's limit.
+    last = f.group_bytes(replace(nominal(5), count=C - 1))
+    for final in (0x20, 3), (0x21,):
+        for then in (0x20, 3), (0x21,), (0x20, f.SENTINEL), (0x30, 4), (0x31, 4, 4), (0x40,):
+            yield join(last, final, then)
+    # A new group that is refused: the offset is that of the command inside it.
+    x = nominal(6)
+    for bad in dict(model=3), dict(m=1), dict(F=65536), dict(l=V + 1), dict(b=-V - 1), dict(s=cells(0, V + 1)), dict(p=2), dict(count=C + 1):
+        yield join(f.group_bytes(x), (0x20, 20), f.group_bytes(replace(x, **bad)))
+
+
+def leaving():
+    """Refusal 15: the level, the trend or a season value would leave its range, upward and downward; and just not."""
+    for sign in (1, -1):
+        y = sign * 1_000_000
+        high = sign * V
+        for d in (0, 1, 2):
+            l = sign * (V - d)
+            # With A = 0 the level moves by the trend alone, and with B = 0 the trend stays.
+            yield join(f.group_bytes(State(model=1, F=65536, l=l, b=sign)), (0x20, 0), (0x40,))
+            # With F = 1 and B = 65536 the trend becomes e, which nears 2^37 in one step from level 0.
+            yield join(f.group_bytes(State(model=1, B=65536, F=65536, b=l)), (0x20, sign), (0x40,))
+            # A season value that moves by e alone: l is far from the reading.
+            yield join(f.group_bytes(State(model=4, m=2, G=65536, s=cells(l, 0), l=-l)), (0x20, sign), (0x40,))
+            yield join(f.group_bytes(State(model=4, m=2, G=65536, s=cells(0, l), p=1, l=-l)), (0x20, sign * d), (0x40,))
+        yield join(f.group_bytes(State(model=0, A=65536, l=high)), (0x20, y), (0x40,))
+        yield join(f.group_bytes(State(model=0, A=65536, l=high)), (0x20, -y), (0x40,))
+        yield join(f.group_bytes(State(model=6, m=2, F=65535, B=65536, A=1, b=high, l=-high)), (0x20, y), (0x40,))
+        yield join(f.group_bytes(State(model=6, m=2, F=65535, B=65536, A=1, b=high, l=high)), (0x20, y), (0x40,))
+
+
+def places():
+    """At every command of a stream: each unknown byte of a list, and each command byte in the place of the right one.
+
+    Refusals 2 and 3; a command that is in place after all goes on into 4 or a later refusal, or is accepted.
+    """
+    for model in (0, 4):
+        x = nominal(model)
+        parts = [f.encode(*c) for c in f.group(x)]
+        parts += [f.encode(*c) for c in ((0x20, 20), (0x21,), (0x30, 2), (0x31, 2, 4), (0x40,))]
+        parts += [f.encode(*c) for c in f.group(replace(x, count=0))]
+        at = 0
+        stream = b"".join(parts)
+        for part in parts:
+            for byte in UNKNOWN + list(f.OPERANDS):
+                yield stream[:at] + bytes([byte]) + stream[at + 1 :]
+            at += len(part)
+        for byte in UNKNOWN + list(f.OPERANDS):
+            yield stream + bytes([byte])
+    for byte in range(256):
+        yield bytes([byte])
+        yield f.group_bytes(State()) + bytes([byte])
+
+
+def saves():
+    """A save reopened: the group that was saved is opened in the same stream and in a new one."""
+    for model in MODELS:
+        x = nominal(model, 5)
+        stream = join(f.group_bytes(x), *readings(13), (0x40,))
+        lines, _ = f.play(stream)
+        saved = bytes.fromhex(lines[-2][2:])
+        later = join(*readings(6, 25), *QUESTIONS)
+        yield stream + later
+        yield stream + saved + later
+        yield saved + later
+        yield join(saved, (0x40,), saved, (0x40,))
+
+
+def damaged():
+    """One byte of a short stream changed, at every place: its lowest bit, its highest, and set to 0 and 255."""
+    stream = join(f.group_bytes(nominal(6)), (0x20, 19), (0x21,), (0x30, 3), (0x31, 2, 4), (0x40,))
+    for at, byte in enumerate(stream):
+        for new in sorted({byte ^ 1, byte ^ 0x80, 0, 255} - {byte}):
+            yield stream[:at] + bytes([new]) + stream[at + 1 :]
+
+
+def cut():
+    """Streams to be played cut after each of their bytes."""
+    for model in MODELS:
+        x = nominal(model)
+        yield join(f.group_bytes(x), (0x20, 20), (0x21,), (0x30, 2), (0x31, 2, 4), (0x40,), f.group_bytes(x), (0x20, -20))
+    yield f.group_bytes(nominal(4, 48))
+
+
+def long_runs():
+    """Many readings, and the longest inputs: 65,536 bytes, cut in their last command, and 65,537."""
+    for model in MODELS:
+        x = nominal(model, 24)
+        asked = [(0x30, 1), (0x30, 48), (0x30, 512), (0x31, 48, 9), (0x40,)]
+        run = readings(300)
+        yield join(f.group_bytes(x), *run[:100], *asked, *run[100:200], *asked, *run[200:], *asked)
+    start = f.group_bytes(replace(nominal(0), A=1311))
+    readings_only = join(start, *[(0x20, 20 + (k * 7) % 5) for k in range((f.INPUT_LIMIT - len(start)) // 5)])
+    assert len(readings_only) == f.INPUT_LIMIT
+    yield readings_only
+    large = f.group_bytes(nominal(6, 48))
+    groups = large * (f.INPUT_LIMIT // len(large))
+    rest = f.INPUT_LIMIT - len(groups)
+    groups += join(*[(0x20, 20)] * (rest // 5), *[(0x21,)] * (rest % 5))
+    assert len(groups) == f.INPUT_LIMIT
+    yield groups
+    yield groups[:-1] + b"\x30"
+    yield groups + b"\x21"
+    yield bytes(f.INPUT_LIMIT + 1)
+
+
+PLAYED = [document, models, edges, operands, order, leaving, places, saves, damaged, long_runs]
+
+
+def records():
+    """What the program `vectors` reads: each stream with a kind: 0 to be played, 1 to be played cut after each byte."""
+    yield 0, b""
+    for source in PLAYED:
+        for stream in source():
+            yield 0, stream
+    for stream in cut():
+        yield 1, stream
+
+
+def container():
+    """The records' bytes: kind, length in 32 bits with the low byte first, the stream."""
+    return b"".join(bytes([kind]) + len(s).to_bytes(4, "little") + s for kind, s in records())
+
+
+def expected():
+    """What the program `vectors` writes."""
+    found = []
+    for kind, s in records():
+        for end in range(len(s) + 1) if kind == 1 else (len(s),):
+            found.append(f.output(s[:end]))
+    return b"".join(found)
