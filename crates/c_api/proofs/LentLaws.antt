@@ -22,20 +22,6 @@ use Rattle.snapshot.specs.Snapshots.{openCode, openOffset, decoded, encoded, si
 use Rattle.snapshot.proofs.RoundTrip.{read-back, accepted-size}
 use Rattle.c_api.specs.LentSnapshots.{lentCode, lentStepCode, lentStepBytes, lentResidual, lentMissingCode, lentMissingBytes, lentForecastCode, lentForecast}
 
--- ---- what an answer tells
-pub answer-rejected : (k : ℕ) (v : ℤ) (n : ℕ) → answer k v ≡ answer-of.Rejected n → (k ≡ n) × (k ≡ 0 → ⊥)
-answer-rejected zero v n e = let z : _≡_ {A = ℕ} 0 1 = cc in absurd (omega arith)
-answer-rejected (suc k) v n e =
-    let q : answer-of.Rejected (suc k) ≡ answer-of.Rejected n = rw (eqb·suc-zero k) at e in
-    (cc, λ z. omega arith)
-
-pub answer-accepted : (k : ℕ) (v e : ℤ) → answer k v ≡ answer-of.Accepted e → (k ≡ 0) × (v ≡ e)
-answer-accepted zero v e q = (refl, cc)
-answer-accepted (suc k) v e q =
-    let r : answer-of.Rejected (suc k) ≡ answer-of.Accepted e = rw (eqb·suc-zero k) at q in
-    let z : _≡_ {A = ℕ} 0 1 = cc in
-    absurd (omega arith)
-
 -- the slice holds one snapshot and nothing after it
 pub record Lent (d : List ℕ) : Type 0 where
   pub opens : openCode d ≡ 0

@@ -4,6 +4,7 @@
 use ets::Numbers;
 use ets::Update;
 use ets::forecasts::forecast_from;
+use ets::next_index;
 use ets::updates::update;
 use snapshot::fields::Scalars;
 use snapshot::fields::put_level;
@@ -49,13 +50,6 @@ fn numbers(x: Scalars) -> Numbers
         season: x.season,
         count: x.count,
     }
-}
-
-fn next_index(m: u8, p: u8) -> u8
-    requires { ⌜ p < 48 ⌝ }
-    ensures { λ r. ⌜ r ≡ nextIndex m p ⌝ }
-{
-    if p + 1 < m { p + 1 } else { 0 }
 }
 
 // The place of the season value that a step moves; without season one that no snapshot has.

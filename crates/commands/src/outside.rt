@@ -8,6 +8,7 @@ use ets::forecasts::forecast;
 use ets::steps::missing;
 use ets::steps::step;
 use lines::Reply;
+use snapshot::is_command;
 use state::Answer;
 use state::OUT_OF_PLACE;
 use state::Outcome;
@@ -20,7 +21,6 @@ use weights::variances::variance;
 ghost use mathlib.Core.Path.{_≡_};
 ghost use Prim.Native.Nat.{_+_, _≤_, _<_};
 ghost use lib.ListN.{length};
-ghost use Rattle.snapshot.specs.Snapshots.{isCommand};
 ghost use Rattle.commands.specs.Commands.{accepted, rejected, ended, onlyInGroup, sizeOf, outsideCode, taken, missed, forecasted, varied, saved, outside};
 
 // A rejected command leaves everything as it was.
@@ -58,20 +58,6 @@ pub fn finish(x: Session) -> Performed
         reply: Reply::Ended(count),
         session: x,
     }
-}
-
-fn is_command(b: u8) -> bool
-    ensures { λ r. ⌜ r ≡ isCommand b ⌝ }
-{
-    (b == 0x10)
-        | (b == 0x11)
-        | (b == 0x12)
-        | (b == 0x13)
-        | (b == 0x20)
-        | (b == 0x21)
-        | (b == 0x30)
-        | (b == 0x31)
-        | (b == 0x40)
 }
 
 fn only_in_group(b: u8) -> bool

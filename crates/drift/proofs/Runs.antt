@@ -8,6 +8,7 @@ use lib.IntN.{ℤ}
 use lib.ListN.{length, take, drop}
 use lib.Seq.{take-at}
 use borrow.Author.Tests.{eqb-true}
+use Rattle.state.proofs.Answers.{outcome-code, answer-code}
 use Rattle.state.specs.Rejections.{outcome, answer, outcomeCode, answerCode, answerValue}
 use Rattle.state.specs.Fixed.{isSentinel}
 use Rattle.state.specs.declared.State.{State}
@@ -31,12 +32,6 @@ by-code P n f g = go (eqb n 0) refl
     go : (b : Bool) → eqb n 0 ≡ b → P b
     go true e = f (eqb-true n 0 e)
     go false e = g
-
-outcome-code : (n : ℕ) → outcomeCode (outcome n) ≡ n
-outcome-code n = by-code (λ b. outcomeCode (cond b outcome-of.Accepted (outcome-of.Rejected n)) ≡ n) n sym refl
-
-answer-code : (n : ℕ) (v : ℤ) → answerCode (answer n v) ≡ n
-answer-code n v = by-code (λ b. answerCode (cond b (answer-of.Accepted v) (answer-of.Rejected n)) ≡ n) n sym refl
 
 -- ---- the invariant, with the parameters that the opening state had
 abbrev pub Kept : Parameters → State → Exact → Type 0

@@ -105,8 +105,8 @@ pub fn read(
 
 // The seasonal index after p.
 pub fn next_index(m: u8, p: u8) -> u8
-    requires { ⌜ p ≤ 48 ⌝ }
     ensures { λ r. ⌜ r ≡ nextIndex m p ⌝ }
 {
-    if p + 1 < m { p + 1 } else { 0 }
+    let next = (p as u32) + 1;
+    if next < (m as u32) { next as u8 } else { 0 }
 }

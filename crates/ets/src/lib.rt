@@ -5,6 +5,7 @@ pub mod forecasts;
 pub mod steps;
 pub mod updates;
 
+pub use arithmetic::next_index;
 use state::Answer;
 use state::Outcome;
 use state::State;

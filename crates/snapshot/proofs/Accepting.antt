@@ -8,12 +8,13 @@ use native.Mathlib.Nat.{le-of-suc-le-suc, eq-or-lt-of-le, not-suc-le-zero}
 use native.Mathlib.Numerals.{add-one}
 use native.Mathlib.Omega.{arith}
 use borrow.Author.Tests.{ltb-true, leb-true, eqb-true, lt-ltb, le-leb, eq-eqb, ne-eqb}
-use lib.Dec.{eqb, leb}
+use lib.Dec.{eqb, ltb, leb}
 use lib.ListN.{length, getD}
-use Rattle.state.specs.Rejections.{unless, _then_, unknown-command}
+use Rattle.state.specs.Rejections.{unless, unknown-command, out-of-place, truncated}
 use Rattle.state.specs.Fixed.{inRange}
 use Rattle.state.specs.Models.{hasSeason, validModel, periodOk, parametersOk}
 use Rattle.state.specs.States.{trendOk, indexOk, countOk}
+use Rattle.state.proofs.Passing.{period-le}
 use Rattle.state.proofs.Tests.{both, unless-zero, then-zero}
 use Rattle.snapshot.specs.Bytes.{unsignedAt, signedAt}
 use Rattle.snapshot.specs.Snapshots.{isCommand, dueCode, modelCode, levelCode, seasonCode, seasonsCode, seasonsRead, positionCode, openCode, openOffset, sizeOf}
@@ -26,13 +27,12 @@ pub record Due (s : List ℕ) (at first size : ℕ) : Type 0 where
 pub due : (s : List ℕ) (at first size : ℕ) → dueCode s at first size ≡ 0 → Due s at first size
 unfolding dueCode
 due s at first size h =
-    let c = then-zero _ _ h in
+    let c = then-zero (unless (ltb at (length s)) truncated) _ h in
     let d = then-zero (unless (isCommand (getD s at 0)) unknown-command) _ (c .1) in
-    let e = then-zero _ _ (d .1) in
-    record {
-      byte = eqb-true (getD s at 0) first (unless-zero _ 2 (e .0));
-      room = omega (arith, ltb-true at (length s) (unless-zero _ 3 (c .0)), leb-true size (length s - at) (unless-zero _ 3 (e .1)));
-    }
+    let e = then-zero (unless (eqb (getD s at 0) first) out-of-place) _ (d .1) in
+    let l = ltb-true at (length s) (unless-zero _ 3 (c .0)) in
+    let w = leb-true size (length s - at) (unless-zero _ 3 (e .1)) in
+    record { byte = eqb-true (getD s at 0) first (unless-zero _ 2 (e .0)); room = omega arith }
 
 is-due : {s : List ℕ} {at first size : ℕ} → isCommand first ≡ true → 0 < size → Due s at first size → dueCode s at first size ≡ 0
 unfolding dueCode
@@ -60,11 +60,7 @@ unfolding modelCode isCommand
 is-model c = rw (is-due refl (omega arith) (c .due), c .valid, c .period, c .parameters)
 
 pub period-most : {s : List ℕ} → Model s → getD s 2 0 ≤ 48
-period-most {s} c = most (hasSeason (getD s 1 0)) (getD s 2 0) (c .period)
-  where
-    most : (t : Bool) (m : ℕ) → cond t (leb 2 m && leb m 48) (eqb m 0) ≡ true → m ≤ 48
-    most true m e = leb-true m 48 (both (leb 2 m) (leb m 48) e .1)
-    most false m e = omega (arith, eqb-true m 0 e)
+period-most {s} c = period-le (hasSeason (getD s 1 0)) (getD s 2 0) (c .period)
 
 -- ---- the command 11
 pub record Level (s : List ℕ) : Type 0 where

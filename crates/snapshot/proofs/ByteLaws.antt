@@ -3,6 +3,7 @@ use Prim.Native.Nat.{ℕ, zero, suc, _+_, _*_, _-_, _/_, _%_, _^_, _≤_, _<_}
 use mathlib.Core.Path.{_≡_, refl, ap}
 use mathlib.Core.List.{List, [], _∷_, _++_}
 use native.Mathlib.Nat.{le-refl, add-zero, add-suc, suc-add, pow-suc, div-lt-iff-lt-mul, one-le-pow}
+use native.Mathlib.Numerals.{add-one}
 use native.Mathlib.Omega.{arith}
 use lib.Arith.{digits-div, digits-mod}
 use lib.Dec.{lit<}
@@ -35,14 +36,13 @@ fromBytes-lt (suc n) [] h = one-le-pow (suc n) 256 (lit< tt)
 fromBytes-lt (suc n) (x ∷ xs) h = rw (pow-suc 256 n) (omega (arith, fromBytes-lt n xs (λ i. h (suc i)), h 0))
 
 -- ---- one byte more, from the top down: what a turn of `read_le` adds
-pub fromBytes-more : (s : List ℕ) (at k i : ℕ) → 0 < i → i ≤ k → at + k ≤ length s
-    → fromBytes (take (k - i) (drop (at + i) s)) * 256 + getD s (at + (i - 1)) 0 ≡ fromBytes (take (k - (i - 1)) (drop (at + (i - 1)) s))
+pub fromBytes-more : (s : List ℕ) (at k i : ℕ) → i < k → at + k ≤ length s
+    → fromBytes (take i (drop (at + (k - i)) s)) * 256 + getD s (at + (k - (i + 1))) 0 ≡ fromBytes (take (i + 1) (drop (at + (k - (i + 1))) s))
 unfolding fromBytes
-fromBytes-more s at k i p q r =
-    let e : k - (i - 1) ≡ suc (k - i) = omega arith in
-    let f : at + i ≡ suc (at + (i - 1)) = omega arith in
-    let g : at + (i - 1) < length s = omega arith in
-    rw (e, f, drop-cons s (at + (i - 1)) 0)
+fromBytes-more s at k i p q =
+    let e : at + (k - i) ≡ suc (at + (k - (i + 1))) = omega arith in
+    let g : at + (k - (i + 1)) < length s = omega arith in
+    rw (e, drop-cons s (at + (k - (i + 1))) 0 g, add-one i)
 
 -- ---- one byte more, from the bottom up: what a turn of `write_le` stores
 pub toBytes-more : (d : List ℕ) (at k i v : ℕ) → i < k

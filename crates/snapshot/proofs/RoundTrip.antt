@@ -1,5 +1,5 @@
 -- Both round trips of a snapshot: reading what was saved gives the state back, and saving what was read writes the same bytes.
-use Prim.Native.Nat.{ℕ, zero, suc, _+_, _-_, _*_, _/_, _%_, _≤_, _<_}
+use Prim.Native.Nat.{ℕ, zero, suc, _+_, _*_, _/_, _%_, _≤_, _<_}
 use mathlib.Core.Path.{_≡_, refl, sym, ap, _∙_}
 use mathlib.Core.Bool.{Bool, true, false, not, cond}
 use mathlib.Core.Logic.{⊎-elim}
@@ -15,12 +15,13 @@ use mir.Syntax.{w64}
 use mir.Val.{SFits, ofZ}
 use Rattle.integers.specs.Bounds.{Within}
 use Rattle.integers.proofs.Bounds.{within-fits}
-use Rattle.state.specs.Rejections.{unless, _then_, outcome, outcomeCode, short-buffer}
+use Rattle.state.specs.Rejections.{unless, outcome, outcomeCode, short-buffer}
 use Rattle.state.specs.Fixed.{inRange, isZero}
 use Rattle.state.specs.Models.{trendOf, seasonOf, validModel}
 use Rattle.state.specs.States.{check, cellOk}
 use Rattle.state.specs.declared.State.{State}
 use Rattle.state.specs.declared.Outcome.the-variants as outcome-of
+use Rattle.state.proofs.Answers.{outcome-accepted}
 use Rattle.state.proofs.Tests.{both, unless-zero, then-zero, model-law, allBelow-at, allBelow-all, zero-is}
 use Rattle.state.proofs.Passing.{Passed, passed, passes, Bounded, bounded}
 use Rattle.snapshot.specs.Bytes.{toBytes, signedBytes, signedAt, unsignedAt}
@@ -162,7 +163,7 @@ module _ (s : State) (t : List ℕ) (p : Passed s) (b : Bounded s) where
       (λ i h.
       let k : s .period + i < 48 = omega (arith, length-drop (s .period) (replicate 48 (pos 0))) in
       let o = rw (le-ltb (s .period + i) (s .period) (omega arith)) at (cell-ok (s .period + i) k) in
-      rw (getD-drop, getD-drop, zero-is (getD (s .seasonal) (s .period + i) (pos 0)) o, getD-replicate 48 (s .period + i) (pos 0) (pos 0) k))
+      rw (getD-drop (s .period) (replicate 48 (pos 0)) i (pos 0), getD-drop (s .period) (s .seasonal) i (pos 0), zero-is (getD (s .seasonal) (s .period + i) (pos 0)) o, getD-replicate 48 (s .period + i) (pos 0) (pos 0) k))
 
   seasonal-back : length (s .seasonal) ≡ 48 → cellsAt x (s .period) ≡ s .seasonal
   seasonal-back l = rw (cells-back (s .period) (le-refl (s .period)) l, zeros l) (take-append-drop (s .period) (s .seasonal))
@@ -355,13 +356,6 @@ saved-back s b h =
     rw (accepts a .1, e, cut-at s 0 19 (17 + (10 * m + 10)), cut-at s 19 17 (10 * m + 10), cut-at s 36 (10 * m) 10, model-same s b a, level-same s b a, cells-same s b a, position-same s b a)
 
 -- ---- the same in the words of the contracts
-pub outcome-code : (n : ℕ) → outcomeCode (outcome n) ≡ n
-outcome-code zero = refl
-outcome-code (suc n) = rw (eqb·suc-zero n)
-
-pub is-accepted : (n : ℕ) → outcome n ≡ outcome-of.Accepted → n ≡ 0
-is-accepted n e = sym (outcome-code n) ∙ ap outcomeCode e
-
 pub stored : (d xs : List ℕ) → length xs ≤ length d → sets d 0 xs ≡ xs ++ drop (length xs) d
 stored d xs h = sets-eq xs d 0 (rw (zero-add (length xs)) h) ∙ ap (λ (n : ℕ). xs ++ drop n d) (zero-add (length xs))
 
@@ -370,7 +364,7 @@ pub read-saved : (s : State) (d : List ℕ) → length (s .seasonal) ≡ 48 → 
     → (read (savedBytes s d) ≡ record { outcome = outcome-of.Accepted; offset = sizeOf (s .period); state = s }) × (restOf (savedBytes s d) ≡ drop (sizeOf (s .period)) d)
 unfolding save saveCode savedBytes read restOf
 read-saved s d l e =
-    let z = is-accepted (saveCode s (length d)) e in
+    let z = outcome-accepted (saveCode s (length d)) e in
     let c = then-zero (check s) (unless (leb (sizeOf (s .period)) (length d)) short-buffer) z in
     let h : sizeOf (s .period) ≤ length d = leb-true (sizeOf (s .period)) (length d) (unless-zero _ 11 (c .1)) in
     let n = length-encoded s in
@@ -384,7 +378,7 @@ read-saved s d l e =
 pub saved-read : (s : List ℕ) → AreBytes s → read s .outcome ≡ outcome-of.Accepted → savedBytes (read s .state) s ≡ s
 unfolding read savedBytes saveCode
 saved-read s b e =
-    let h = is-accepted (openCode s) e in
+    let h = outcome-accepted (openCode s) e in
     let o = accepted-size s h in
     let t = saved-back s b h in
     let l : length (take (openOffset s) s) ≡ openOffset s = length-take-le (openOffset s) s (o .1) in

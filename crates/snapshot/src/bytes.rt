@@ -8,6 +8,13 @@ ghost use mir.Syntax.{w64};
 ghost use mir.Val.{toZ, ofZ};
 ghost use Rattle.snapshot.specs.Bytes.{unsignedAt, signedAt, toBytes, signedBytes};
 
+fn wide(b: u8) -> u64
+    ensures value { λ r. ⌜ r ≡ b ⌝ }
+    ensures small { λ r. ⌜ r < 256 ⌝ }
+{
+    b as u64
+}
+
 // The operand of k bytes at an offset.
 pub fn read_le(s: &[u8], at: usize, k: usize) -> u64
     requires { ⌜ (k ≤ 8) × (at + k ≤ length (now s)) ⌝ }
@@ -15,10 +22,10 @@ pub fn read_le(s: &[u8], at: usize, k: usize) -> u64
     ensures small { λ r. ⌜ r < 256 ^ k ⌝ }
 {
     let mut v: u64 = 0;
-    let mut i = k;
-    while 0 < i {
-        i -= 1;
-        let b = s[at + i] as u64;
+    let mut i = 0;
+    while i < k {
+        i += 1;
+        let b = wide(s[at + (k - i)]);
         v = v * 256 + b;
     }
     v

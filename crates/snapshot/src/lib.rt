@@ -7,6 +7,7 @@ mod saving;
 use bytes::read_i64;
 use bytes::read_le;
 use bytes::read_u32;
+pub use reading::is_command;
 use reading::read_cells;
 use reading::scan;
 use saving::write_level;
@@ -92,8 +93,7 @@ fn snapshot_length(m: usize) -> usize
     requires { ⌜ m < 49 ⌝ }
     ensures { λ r. ⌜ r ≡ sizeOf m ⌝ }
 {
-    let table = &SNAPSHOT_LENGTH;
-    table[m]
+    SNAPSHOT_LENGTH[m]
 }
 
 // A rejected snapshot gives no state.

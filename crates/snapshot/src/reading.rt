@@ -32,7 +32,7 @@ pub struct Scanned {
     pub offset: usize,
 }
 
-fn is_command(b: u8) -> bool
+pub fn is_command(b: u8) -> bool
     ensures { λ r. ⌜ r ≡ isCommand b ⌝ }
 {
     (b == 0x10)
@@ -73,13 +73,11 @@ fn due(s: &[u8], at: usize, first: u8, size: usize) -> u8
         return TRUNCATED;
     }
     let b = s[at];
+    let left = s.len() - at;
     if b != first {
         return stray(b);
     }
-    if s.len() - at < size {
-        return TRUNCATED;
-    }
-    0
+    reject_unless(size <= left, TRUNCATED)
 }
 
 // The rejection of the operands of command 10, or 0.

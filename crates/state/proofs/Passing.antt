@@ -93,7 +93,7 @@ damping-le true u x h = omega (arith, eqb-true x 0 h)
 damping-le false true x h = omega (arith, eqb-true x 65536 h)
 damping-le false false x h = omega (arith, leb-true x 65535 (both (leb 1 x) (leb x 65535) h .1))
 
-period-le : (t : Bool) (m : ℕ) → cond t (leb 2 m && leb m 48) (eqb m 0) ≡ true → m ≤ 48
+pub period-le : (t : Bool) (m : ℕ) → cond t (leb 2 m && leb m 48) (eqb m 0) ≡ true → m ≤ 48
 period-le true m h = leb-true m 48 (both (leb 2 m) (leb m 48) h .1)
 period-le false m h = omega (arith, eqb-true m 0 h)
 

@@ -76,8 +76,8 @@ fn cell_ok(m: usize, k: usize, v: i64) -> bool
     pick(k < m, in_range(v), is_zero(v))
 }
 
-fn seasonal_ok(m: usize, cells: [i64; 48]) -> bool
-    ensures { λ r. ⌜ r ≡ seasonalOk m cells ⌝ }
+fn seasonal_ok(m: usize, cells: &[i64; 48]) -> bool
+    ensures { λ r. ⌜ r ≡ seasonalOk m (now (cells .entry)) ⌝ }
 {
     let mut ok = true;
     for k in 0..48 {
@@ -126,10 +126,9 @@ fn first_of(model: bool, period: bool, parameters: bool, values: bool, position:
 pub fn check(s: State) -> u8
     ensures { λ r. ⌜ r ≡ check s ⌝ }
 {
-    let cells = s.seasonal;
     let values = in_range(s.level)
         & trend_ok(s.model, s.trend)
-        & seasonal_ok(s.period as usize, cells);
+        & seasonal_ok(s.period as usize, &s.seasonal);
     first_of(
         model_ok(s.model),
         period_ok(s.model, s.period),

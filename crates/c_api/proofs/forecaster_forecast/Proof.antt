@@ -9,12 +9,13 @@ use mir.ValLaws.{toZ-ofZ}
 use Rattle.integers.proofs.Difference.{back}
 use Rattle.ets.specs.Forecasts.{trendLine, forecastCode, forecastFromCode, forecastFrom, forecastOf}
 use Rattle.ets.proofs.ForecastLaws.{from-code, forecast-ready}
+use Rattle.state.proofs.Answers.{answer-rejected, answer-accepted}
 use Rattle.snapshot.specs.Snapshots.{decoded}
 use Rattle.snapshot.specs.Fields.{seasonValue}
 use Rattle.snapshot.specs.declared.fields.Scalars.{Scalars}
 use Rattle.snapshot.proofs.RoundTrip.{accepted-passes}
 use Rattle.c_api.specs.LentSnapshots.{lentCode}
-use Rattle.c_api.proofs.LentLaws.{Lent, lent, answer-rejected, answer-accepted}
+use Rattle.c_api.proofs.LentLaws.{Lent, lent}
 use Rattle.c_api.proofs.FieldSteps.{opened-code, position-is, forecast-is, aheadValue, ahead-within, ahead-is, forecast-before, forecast-past, forecast-rejects, forecast-accepts}
 use borrow.Author.Needs.{needs}
 use Rattle.c_api.proofs.forecaster_forecast.Statement.{statement}

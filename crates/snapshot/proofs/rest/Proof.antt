@@ -1,5 +1,6 @@
 -- `snapshot::rest` meets its contract.
 use mathlib.Core.Path.{sym, _∙_}
+use native.Mathlib.Omega.{arith}
 use borrow.Author.Tests.{eq-eqb, ne-eqb}
 use Rattle.snapshot.specs.Snapshots.{restOf}
 use Rattle.snapshot.proofs.ByteLaws.{rest}
@@ -16,7 +17,7 @@ unfolding restOf
 returns c = rw (← (c .before .scan .ensures .0), ne-eqb _ _ (c .if1 .taken))
 
 sub-result : tie.Need-sub-result
-sub-result c = rw (c .before .scan .ensures .1) (accepted-size _ (sym (c .before .scan .ensures .0) ∙ c .if1 .left) .1)
+sub-result c = omega (arith, c .before .scan .ensures .1, accepted-size _ (sym (c .before .scan .ensures .0) ∙ c .if1 .left) .1)
 
 part-result-start : tie.Need-part-result-start
 part-result-start c = sub-result c

@@ -45,7 +45,8 @@ unfolding save saveCode savedBytes
 returns-2 c =
     let e = c .before .before .before .check .ensures in
     let n = eq-eqb _ _ (c .before .before .if1 .left) in
-    let l = lt-leb _ _ (rw (c .before .snapshot-length .ensures) at (c .if2 .taken)) in
+    let a = c .before .before .before .before .before .args in
+    let l = lt-leb (46 + 10 * a .t1 .period) (length (a .buffer .now)) (omega (arith, c .before .snapshot-length .ensures)) in
     (rw (← e, n, l), rw (← e, n, l))
 
 write-model-requires : tie.Need-write-model-requires Inv-loop μ-loop

@@ -8,11 +8,11 @@ use Rattle.snapshot.proofs.snapshot_length.Tie as tie
 mul-result : tie.Need-mul-result
 mul-result c = search needs
 
-element-copy-out-result : tie.Need-element-copy-out-result
-element-copy-out-result c = search needs
+array-read-result : tie.Need-array-read-result
+array-read-result c = search needs
 
 returns : tie.Need-returns
-returns c = at sizeOf 49 (c .before .before .args .m) (c .before .before .pre)
+returns c = at sizeOf 49 (c .args .m) (c .pre)
 
 pub snapshot-length-spec : {M : Type 1} → statement M
-snapshot-length-spec = tie.close (tie.spec mul-result element-copy-out-result returns)
+snapshot-length-spec = tie.close (tie.spec mul-result array-read-result returns)

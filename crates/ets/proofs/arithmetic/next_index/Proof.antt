@@ -4,11 +4,11 @@ use borrow.Author.Needs.{needs}
 use Rattle.ets.proofs.arithmetic.next_index.Statement.{statement}
 use Rattle.ets.proofs.arithmetic.next_index.Tie as tie
 
-add-if1 : tie.Need-add-if1
-add-if1 c = search needs
+add-next : tie.Need-add-next
+add-next c = search needs
 
-add-result : tie.Need-add-result
-add-result c = search needs
+cast-result : tie.Need-cast-result
+cast-result c = search needs
 
 returns : tie.Need-returns
 unfolding nextIndex
@@ -19,4 +19,4 @@ unfolding nextIndex
 returns-2 c = rw (le-ltb _ _ (c .if1 .left))
 
 pub next-index-spec : {M : Type 1} → statement M
-next-index-spec = tie.close (tie.spec add-if1 add-result returns returns-2)
+next-index-spec = tie.close (tie.spec add-next cast-result returns returns-2)

@@ -111,7 +111,7 @@ slice-set-from-values : tie.Need-slice-set-from-values Inv-loop μ-loop
 slice-set-from-values c = search needs
 
 next-index-requires : tie.Need-next-index-requires Inv-loop μ-loop
-next-index-requires c κs = let l = place (c .before .before) in omega arith
+next-index-requires c κs = search needs
 
 add-i : tie.Need-add-i Inv-loop μ-loop
 add-i c = search needs

@@ -47,7 +47,7 @@ returns-2 c =
     c .not-missed2 .ensures ∙ sym (missing-rejected s 14 (full q (c .before .if2 .taken)) (λ z. omega arith))
 
 next-index-requires : tie.Need-next-index-requires
-next-index-requires c κs = let b = bounded-at (c .before .before) in omega arith
+next-index-requires c κs = search needs
 
 add-next : tie.Need-add-next
 add-next c = let b = bounded-at (c .before .before .before .before) in omega arith

@@ -1,6 +1,6 @@
 -- `snapshot::reading::due` meets its contract: each return goes by the tests that led there.
 use mathlib.Core.Path.{refl}
-use borrow.Author.Tests.{lt-ltb, le-ltb, le-leb, lt-leb, eq-eqb, ne-eqb}
+use borrow.Author.Tests.{lt-ltb, le-ltb, eq-eqb, ne-eqb}
 use Rattle.snapshot.specs.Snapshots.{dueCode}
 use borrow.Author.Needs.{needs}
 use Rattle.snapshot.proofs.reading.due.Statement.{statement}
@@ -13,6 +13,9 @@ returns c = rw (le-ltb _ _ (c .if1 .taken))
 shared-slice-read-b : tie.Need-shared-slice-read-b
 shared-slice-read-b c = search needs
 
+sub-left : tie.Need-sub-left
+sub-left c = search needs
+
 stray-requires : tie.Need-stray-requires
 stray-requires c κs = search needs
 
@@ -20,18 +23,21 @@ returns-2 : tie.Need-returns-2
 unfolding dueCode
 returns-2 c = rw (lt-ltb _ _ (c .before .before .before .if1 .left), ne-eqb _ _ (c .before .if2 .taken)) (c .stray .ensures)
 
-sub-if3 : tie.Need-sub-if3
-sub-if3 c = search needs
+reject-unless-requires : tie.Need-reject-unless-requires
+reject-unless-requires c κs = search needs
 
 returns-3 : tie.Need-returns-3
 unfolding dueCode
-returns-3 c = rw (lt-ltb _ _ (c .before .before .before .if1 .left), c .before .if2 .left, c .before .before .before .before .before .pre, eq-eqb _ _ refl, lt-leb _ _ (c .if3 .taken))
-
-returns-4 : tie.Need-returns-4
-unfolding dueCode
-returns-4 c = rw (lt-ltb _ _ (c .before .before .before .if1 .left), c .before .if2 .left, c .before .before .before .before .before .pre, eq-eqb _ _ refl, le-leb _ _ (c .if3 .left))
+returns-3 c = rw (lt-ltb _ _ (c .before .before .before .if1 .left), c .before .if2 .left, c .before .before .before .before .before .pre, eq-eqb _ _ refl) (c .reject-unless .ensures)
 
 pub due-spec : {M : Type 1} → statement M
 due-spec =
     tie.close
-    (tie.spec returns shared-slice-read-b stray-requires returns-2 sub-if3 returns-3 returns-4)
+    (tie.spec
+    returns
+    shared-slice-read-b
+    sub-left
+    stray-requires
+    returns-2
+    reject-unless-requires
+    returns-3)

@@ -40,9 +40,9 @@ unfolding check
 returns c =
     let k = c .before .before .before in
     let q = k .before .before .before in
-    let v = q .before .before in
+    let v = q .before .before .before in
     let u = v .before .before .before .struct-told .given in
-    let s = v .before .before .before .before .before .args .s in
+    let s = v .before .before .before .before .args .t1 in
     rw (
       c .first-of .ensures,
       c .before .count-ok .ensures,

@@ -25,8 +25,8 @@ loop-holds c = search needs
 mul-cell-ok : tie.Need-mul-cell-ok Inv-loop μ-loop
 mul-cell-ok c = search needs
 
-array-copy-out-cell-ok : tie.Need-array-copy-out-cell-ok Inv-loop μ-loop
-array-copy-out-cell-ok c = search needs
+element-copy-out-cell-ok : tie.Need-element-copy-out-cell-ok Inv-loop μ-loop
+element-copy-out-cell-ok c = search needs
 
 cell-ok-requires : tie.Need-cell-ok-requires Inv-loop μ-loop
 cell-ok-requires c κs = search needs
@@ -41,7 +41,7 @@ loop-again : tie.Need-loop-again Inv-loop μ-loop
 loop-again c =
     let h = c .before .before .before in (
       search needs,
-      rw (allBelow-step, h .loop .inv .1, c .cell-ok .ensures, toZ-ofZ {w = w64} {z = getD (h .before .args .t2) (h .loop .k) (pos 0)} (record { sfits = c .before .cell-ok-arg .given })),
+      rw (allBelow-step, h .loop .inv .1, c .cell-ok .ensures, toZ-ofZ {w = w64} {z = getD (h .before .args .cells .now) (h .loop .k) (pos 0)} (record { sfits = c .before .cell-ok-arg .given })),
     )
 
 returns : tie.Need-returns Inv-loop μ-loop
@@ -57,7 +57,7 @@ seasonal-ok-spec =
     μ-loop
     loop-holds
     mul-cell-ok
-    array-copy-out-cell-ok
+    element-copy-out-cell-ok
     cell-ok-requires
     add-k
     loop-less
