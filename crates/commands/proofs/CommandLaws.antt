@@ -9,7 +9,7 @@ use native.Mathlib.Omega.{arith}
 use borrow.Author.Tests.{leb-true}
 use lib.Dec.{eqb, leb}
 use lib.IntN.{ℤ}
-use lib.ListN.{length, drop, take, getD}
+use lib.ListN.{length, drop, getD}
 use lib.Seq.{drop-cons}
 use mir.Syntax.{w32}
 use mir.Val.{toZ}

@@ -2,8 +2,8 @@
 -- gives the whole stream's answers, of which the last and no other is X or N.
 -- Assumes nothing.
 use Prim.Native.Nat.{ℕ, zero, suc, _+_, _-_, _≤_, _<_}
-use mathlib.Core.Path.{_≡_, refl, sym, ap, _∙_}
-use mathlib.Core.Bool.{Bool, true, false, cond, not, _&&_, true≢false, false≢true}
+use mathlib.Core.Path.{_≡_, refl, ap, _∙_}
+use mathlib.Core.Bool.{Bool, true, false, cond, true≢false, false≢true}
 use mathlib.Core.List.{List, [], _∷_}
 use native.Mathlib.Omega.{arith}
 use borrow.Author.Tests.{eqb-true, leb-false}
@@ -12,25 +12,24 @@ use lib.IntN.{ℤ}
 use lib.ListN.{length, length-drop, length-set, drop, getD, set}
 use mir.Syntax.{w32}
 use mir.Val.{toZ}
-use Rattle.state.specs.Rejections.{unless, _then_, outcome, answer, unknown-command, out-of-place, truncated}
+use Rattle.state.specs.Rejections.{outcome, answer}
 use Rattle.state.specs.Models.{hasSeason}
 use Rattle.state.specs.States.{check}
 use Rattle.state.specs.declared.State.{State}
-use Rattle.state.proofs.Tests.{both, then-zero, unless-zero}
-use Rattle.ets.specs.Steps.{step, stepCode, afterReading, residualOf, newSeason, newSeasonal, missing, missingCode, afterMissing}
+use Rattle.ets.specs.Steps.{step, stepCode, residualOf, newSeason, newSeasonal, missing, missingCode}
 use Rattle.ets.specs.Forecasts.{forecast, forecastCode, forecastOf}
 use Rattle.ets.proofs.Kept.{reading-kept, missing-kept}
 use Rattle.weights.specs.Weights.{variance}
 use Rattle.weights.specs.declared.Variance.{Variance}
 use Rattle.weights.specs.declared.Variance.the-variants as variance-of
 use Rattle.snapshot.specs.Bytes.{unsignedAt}
-use Rattle.snapshot.specs.Snapshots.{isCommand, openCode, decoded, read, noState}
+use Rattle.snapshot.specs.Snapshots.{openCode, read}
 use Rattle.snapshot.proofs.RoundTrip.{accepted-size, accepted-passes, length-decoded}
 use Rattle.lines.specs.Lines.{lineOf, replyCode, writeLine}
 use Rattle.lines.specs.declared.Reply.{Reply}
 use Rattle.lines.specs.declared.Line.the-variants as line-of
 use Rattle.lines.proofs.LineLaws.{line-most, long-enough}
-use Rattle.commands.specs.Commands.{start, accepted, rejected, concluded, answered, onlyInGroup, sizeOf, outsideCode, opened, taken, missed, forecasted, varianceReply, varied, saved, outside, perform, isLast, answersIn, answersFrom, answers, finalReply, lastReply}
+use Rattle.commands.specs.Commands.{start, accepted, rejected, concluded, answered, outsideCode, opened, taken, missed, forecasted, varianceReply, varied, saved, outside, perform, isLast, answersIn, answersFrom, answers, finalReply, lastReply}
 use Rattle.commands.specs.declared.Session.{Session}
 use Rattle.commands.specs.declared.Performed.{Performed}
 use Rattle.commands.proofs.CommandLaws.{room, active}

@@ -1,3 +1,4 @@
 pub mod DigitLaws
+pub mod DecimalLaws
 pub mod FieldLaws
 pub mod LineLaws

@@ -1,7 +1,7 @@
 -- Laws of a reply's line: a save's, another's, and what writing one gives.
 -- Assumes nothing.
 use Prim.Native.Nat.{ℕ, zero, suc, _+_, _*_, _≤_, _<_}
-use mathlib.Core.Path.{_≡_, refl, sym, _∙_}
+use mathlib.Core.Path.{_≡_, refl}
 use mathlib.Core.Bool.{cond}
 use mathlib.Core.List.{List}
 use native.Mathlib.Decide.{ℕ-discrete}
@@ -10,13 +10,12 @@ use borrow.Author.Tests.{ne-eqb, le-leb, lt-leb, leb-true}
 use lib.Dec.{eqb, leb, eqb·suc-zero}
 use lib.ListN.{length, length-append, take, replicate}
 use lib.Seq.{sets, sets-eq, take-at}
-use Rattle.state.specs.Rejections.{unless, _then_, short-buffer}
+use Rattle.state.specs.Rejections.{unless, short-buffer}
 use Rattle.state.specs.States.{check}
 use Rattle.state.specs.declared.State.{State}
 use Rattle.state.proofs.Tests.{then-zero, unless-zero}
 use Rattle.state.proofs.Passing.{bounded}
 use Rattle.snapshot.specs.Snapshots.{sizeOf, bytesNeeded, encoded, saveCode, savedBytes}
-use Rattle.snapshot.specs.declared.Length.{Length}
 use Rattle.snapshot.specs.declared.Length.the-variants as length-of
 use Rattle.snapshot.proofs.RoundTrip.{length-encoded}
 use Rattle.lines.specs.Lines.{lineOf, replyCode, lineCode, lineLength, writeLine, lineBytes}

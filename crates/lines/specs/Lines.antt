@@ -54,7 +54,7 @@ signedNumber z = 32 ∷ signedDecimal z
 abbrev pub newline : List ℕ
 newline = 10 ∷ []
 
--- the line of a reply, with the state that stands after it
+-- the line of a reply, with the state that stands after it; the letters are O 79, E 69, M 77, F 70, V 86, S 83, X 88, N 78
 unfoldable pub lineOf : Reply → State → List ℕ
 lineOf (Opened model m) s = 79 ∷ (number model ++ (number m ++ newline))
 lineOf (Residual e) s = 69 ∷ (signedNumber e ++ newline)

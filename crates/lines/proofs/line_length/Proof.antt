@@ -1,8 +1,6 @@
 -- `lines::line_length` meets its contract.
 -- Assumes nothing.
 use borrow.Author.Needs.{needs}
-use mathlib.Core.Path.{_≡_, sym, ap, _∙_}
-use Rattle.lines.specs.Lines.{lineLength}
 use Rattle.lines.proofs.LineLaws.{is-saved, plain, told}
 use Rattle.lines.proofs.line_length.Statement.{statement}
 use Rattle.lines.proofs.line_length.Tie as tie

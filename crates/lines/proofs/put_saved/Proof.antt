@@ -1,8 +1,7 @@
 -- `lines::put_saved` meets its contract.
 -- Assumes nothing.
 use borrow.Author.Needs.{needs}
-use Prim.Native.Nat.{_+_, _*_, _≤_}
-use mathlib.Core.Path.{_≡_, sym, ap, _∙_}
+use mathlib.Core.Path.{_≡_, sym, ap}
 use mathlib.Core.List.{[], _∷_, _++_}
 use native.Mathlib.Omega.{arith}
 use lib.ListN.{length, length-take, take}
@@ -11,7 +10,7 @@ use Rattle.snapshot.proofs.ByteLaws.{follow}
 use Rattle.snapshot.proofs.RoundTrip.{length-encoded}
 use Rattle.lines.specs.Lines.{hexadecimal, newline, lineOf}
 use Rattle.lines.proofs.DigitLaws.{length-hexadecimal}
-use Rattle.lines.proofs.LineLaws.{length-saved, snapshot-most, saved-bytes}
+use Rattle.lines.proofs.LineLaws.{length-saved, saved-bytes}
 use Rattle.lines.proofs.put_saved.Statement.{statement}
 use Rattle.lines.proofs.put_saved.Tie as tie
 

@@ -1,8 +1,7 @@
 -- `lines::write_line` meets its contract.
 -- Assumes nothing.
 use borrow.Author.Needs.{needs}
-use mathlib.Core.Path.{_≡_, sym, ap, _∙_}
-use native.Mathlib.Omega.{arith}
+use mathlib.Core.Path.{sym, ap, _∙_}
 use lib.ListN.{length}
 use Rattle.lines.specs.Fields.{fieldsBytes}
 use Rattle.lines.specs.declared.fields.Fields.{Fields}

@@ -1,7 +1,7 @@
 -- `lines::write_saved` meets its contract.
 -- Assumes nothing.
 use borrow.Author.Needs.{needs}
-use mathlib.Core.Path.{_≡_, refl, sym, ap, _∙_}
+use mathlib.Core.Path.{_≡_, sym, ap, _∙_}
 use native.Mathlib.Omega.{arith}
 use Rattle.state.specs.States.{check}
 use Rattle.snapshot.specs.Snapshots.{sizeOf}

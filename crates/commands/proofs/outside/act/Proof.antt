@@ -1,9 +1,8 @@
 -- `commands::outside::act` meets its contract.
 -- Assumes nothing.
 use borrow.Author.Needs.{needs}
-use Prim.Native.Nat.{_+_}
 use native.Mathlib.Omega.{arith}
-use borrow.Author.Tests.{eq-eqb, ne-eqb}
+use borrow.Author.Tests.{ne-eqb}
 use Rattle.commands.specs.Commands.{outside}
 use Rattle.commands.proofs.CommandLaws.{room}
 use Rattle.commands.proofs.outside.act.Statement.{statement}

@@ -1,6 +1,5 @@
 -- `commands::outside::finish` meets its contract.
 -- Assumes nothing.
-use mathlib.Core.Path.{sym}
 use Rattle.commands.proofs.outside.finish.Statement.{statement}
 use Rattle.commands.proofs.outside.finish.Tie as tie
 

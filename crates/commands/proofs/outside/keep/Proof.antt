@@ -1,8 +1,7 @@
 -- `commands::outside::keep` meets its contract.
 -- Assumes nothing.
 use borrow.Author.Needs.{needs}
-use mathlib.Core.Path.{_≡_, sym, _∙_}
-use borrow.Author.Tests.{eq-eqb, ne-eqb}
+use borrow.Author.Tests.{ne-eqb}
 use Rattle.commands.specs.Commands.{saved}
 use Rattle.commands.proofs.outside.keep.Statement.{statement}
 use Rattle.commands.proofs.outside.keep.Tie as tie

@@ -1,6 +1,6 @@
 -- `commands::outside::size_of` meets its contract.
 -- Assumes nothing.
-use borrow.Author.Tests.{eq-eqb, ne-eqb}
+use borrow.Author.Tests.{ne-eqb}
 use Rattle.commands.proofs.outside.size_of.Statement.{statement}
 use Rattle.commands.proofs.outside.size_of.Tie as tie
 

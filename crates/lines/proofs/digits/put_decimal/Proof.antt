@@ -1,8 +1,6 @@
 -- `lines::digits::put_decimal` meets its contract.
 -- Assumes nothing.
 use borrow.Author.Needs.{needs}
-use Prim.Native.Nat.{ℕ, _+_}
-use mathlib.Core.Path.{_≡_, sym}
 use native.Mathlib.Omega.{arith}
 use Rattle.lines.specs.Lines.{decimal}
 use Rattle.lines.proofs.DigitLaws.{length-decimal}

@@ -6,35 +6,25 @@ use lib.ListN.{length-set}
 use borrow.Author.Needs.{needs}
 use Rattle.lines.proofs.digits.put_hex_byte.Statement.{statement}
 use Rattle.lines.proofs.digits.put_hex_byte.Tie as tie
-use Rattle.lines.proofs.digits.put_hex_byte.Reads as reads
-use Rattle.lines.proofs.digits.put_hex_byte.Lts as lts
-use Rattle.lines.proofs.digits.hex_digit.Reads as hex-digit-reads
 
--- src/digits.rt:87:13
 hex-digit-requires : tie.Need-hex-digit-requires
 hex-digit-requires c κs = search needs
 
--- src/digits.rt:87:5
 slice-write-d : tie.Need-slice-write-d
 slice-write-d c = search needs
 
--- src/digits.rt:88:17
 hex-digit-requires-2 : tie.Need-hex-digit-requires-2
 hex-digit-requires-2 c κs = search needs
 
--- src/digits.rt:88:7
 add-d : tie.Need-add-d
 add-d c = search needs
 
--- src/digits.rt:88:5
 slice-write-d-2 : tie.Need-slice-write-d-2
 slice-write-d-2 c = simp length-set (omega arith)
 
--- src/digits.rt:83:1
 same-length : tie.Need-same-length
 same-length c = search needs
 
--- src/digits.rt:83:1
 returns : tie.Need-returns
 returns c = rw (c .before .hex-digit .ensures, c .hex-digit2 .ensures, add-one)
 
