@@ -14,7 +14,7 @@ use mathlib.Core.Bool.{Bool, true, false, not, cond}
 use Prim.Native.Nat.{ℕ, zero, suc, _+_, _*_, _-_, _^_, _≤_, _<_, max}
 use native.Mathlib.Omega.{arith}
 use lib.Dec.{T, ltb, ltb→lt, nltb→le, leb→le, le→leb, lt→ltb}
-use lib.IntN.{ℤ, pos, negsuc, negℤ, natAbs, subℕ, _+ℤ_, _-ℤ_, _*ℤ_}
+use lib.IntN.{ℤ, pos, negsuc, negℤ, subℕ, _+ℤ_, _-ℤ_, _*ℤ_}
 use lib.Signed.{leZ, ltZ, _≤ℤ_, _<ℤ_, mag, shrZ, mag-shr, nonNeg}
 use mir.Syntax.{Width}
 use mir.Val.{SFits, toZ, ofZ, hbits}
@@ -81,9 +81,6 @@ minus x y = omega (arith, sum x (negℤ y), up-neg y, dn-neg y)
 
 pub scaled : (a : ℕ) (x : ℤ) → up (pos a *ℤ x) + a * dn x ≡ dn (pos a *ℤ x) + a * up x
 scaled a x = omega (arith, product (pos a) x)
-
-pub negated : (x : ℤ) → (up (negℤ x) ≡ dn x) × (dn (negℤ x) ≡ up x)
-negated x = (up-neg x, dn-neg x)
 
 le-parts : (x y : ℤ) → T (leZ x y) → up x + dn y ≤ up y + dn x
 le-parts (pos a) (pos b) t = let h = leb→le a b t in omega arith
@@ -233,19 +230,6 @@ pub nonneg-in : (z : ℤ) → dn z ≤ up z → T (nonNeg z)
 nonneg-in (pos n) h = tt
 nonneg-in (negsuc n) h = absurd (omega arith)
 
-pub abs-parts : (z : ℤ) → natAbs z ≡ up z + dn z
-abs-parts (pos n) = omega arith
-abs-parts (negsuc n) = omega arith
-
--- a number that is not negative has nothing below
-pub nonneg-parts : (z : ℤ) → dn z ≤ up z → dn z ≡ 0
-nonneg-parts (pos n) h = refl
-nonneg-parts (negsuc n) h = absurd (omega arith)
-
--- a width within a wider one
-pub fits-wider : {v : Width} {z : ℤ} (w : Width) → SFits v z → 2 ^ hbits v ≤ 2 ^ hbits w → SFits w z
-fits-wider {v} {z} w f h = omega (arith, fits-range f, fits-in {w = w} {z = z})
-
 -- ---- a test's answer, as a goal
 to-true : (b : Bool) → T b → b ≡ true
 to-true true t = refl
@@ -266,10 +250,6 @@ ltZ-is x y h = to-true (ltZ x y) (parts-lt x y h)
 
 pub ltZ-not : (x y : ℤ) → up y + dn x ≤ up x + dn y → ltZ x y ≡ false
 ltZ-not x y h = to-false (ltZ x y) (λ t. let k = lt-parts x y t in omega arith)
-
--- two numbers of one width with the same bits, as `==` leaves it
-pub same-bits : (w : Width) {x y : ℤ} → SFits w x → SFits w y → ofZ w x ≡ ofZ w y → x ≡ y
-same-bits w {x} {y} f g e = sym (toZ-ofZ w x f) ∙ ap (toZ w) e ∙ toZ-ofZ w y g
 
 -- ---- the two sets
 pub ruleset diff = (⊖-neg-pos, ⊖-pos, ⊖-negsuc, ⊖-neg, ⊖-add, ⊖-scale, ⊖-mul, ⊖-le, ⊖-lt, ⊖-eq, ⊖-fits)
