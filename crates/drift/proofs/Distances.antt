@@ -2,7 +2,8 @@
 use mathlib.Core.Path.{_≡_, sym, ap}
 use mathlib.Core.Bool.{Bool, true, false, cond, false≢true}
 use Prim.Native.Nat.{ℕ, suc, _+_, _*_, _-_, _%_, _^_, _≤_, _<_}
-use native.Mathlib.Nat.{mod-lt, le-of-lt}
+use native.Mathlib.Nat.{mod-lt, le-of-lt, pow-suc}
+use native.Mathlib.Decide.{decLe}
 use native.Mathlib.Omega.{arith}
 use lib.IntN.{ℤ, pos, negsuc, natAbs, _+ℤ_, _-ℤ_, _*ℤ_}
 use lib.ListN.{getD}
@@ -18,7 +19,7 @@ use Rattle.drift.proofs.Readings.{power, valueAt, levelErr, placeErr}
 use Rattle.drift.proofs.ForecastErrors.{flat-line}
 use Rattle.drift.proofs.Invariant.{Good}
 use Rattle.drift.specs.Exact.{Parameters, Exact, parametersOf, exactForecast, expectedForecast}
-use Rattle.drift.specs.Limits.{distance, HalfPerReading, PlainBound, SeasonalBound, WithinLimit}
+use Rattle.drift.specs.Limits.{distance, HalfPerReading, PlainBound, divisor, SeasonalBound, WithinLimit}
 
 -- c |z| ≤ e where z is d
 sized : (c e : ℕ) (z : ℤ) (d : D) → Same (parts z) d → c * d .0 ≤ c * d .1 + e → c * d .1 ≤ c * d .0 + e → c * natAbs z ≤ e
@@ -41,6 +42,14 @@ level-half c s x w = half (x .n) (s .level) (x .L) (w .level)
 
 pub value-half : (c : Parameters) (s : State) (x : Exact) → Good c s x → (k : ℕ) → HalfPerReading (x .n) (valueAt s k) (x .S k)
 value-half c s x w k = half (x .n) (valueAt s k) (x .S k) (w .places k .1, w .places k .0)
+
+-- ---- a limit that divides by 0
+unlimited : (c : Parameters) (n : ℕ) (z Z : ℤ) → divisor c ≡ 0 → SeasonalBound c n z Z
+unfolding SeasonalBound
+unlimited c n z Z h = rw h (omega arith)
+
+zero-power : (n : ℕ) → 0 < n → 0 ^ n ≡ 0
+zero-power (suc n) h = rw (pow-suc 0 n) (omega arith)
 
 -- ---- forecasts
 -- the error of a sum, and by cases on the season, which is b
@@ -110,6 +119,16 @@ module _ (s : State) (x : Exact) (h : ℕ) (w : Good (parametersOf s) s x) where
       some : 0 < s .period
       some = omega (arith, lt)
 
+  any-gain : hasSeason (s .model) ≡ true → x .missed ≡ 0 → SeasonalBound (parametersOf s) (x .n) f F
+  any-gain ss z = by-gains (decLe 1 (s .gamma)) (decLe (suc (s .alpha)) 65536)
+    where
+      by-gains : Dec (1 ≤ s .gamma) → Dec (suc (s .alpha) ≤ 65536) → SeasonalBound (parametersOf s) (x .n) f F
+      by-gains (yes g) (yes a) = of-season ss (omega arith) (omega arith) z
+      by-gains (no g) d = let e : s .gamma ≡ 0 = omega arith in unlimited (parametersOf s) (x .n) f F (rw e (omega arith))
+      by-gains (yes g) (no a) =
+          let e : 65536 - s .alpha ≡ 0 = omega arith in
+          unlimited (parametersOf s) (x .n) f F (rw (e, zero-power (s .period) (omega (arith, with-season s (w .passes) ss .index))) (omega arith))
+
   pub forecast-close : WithinLimit (parametersOf s) (forecastOf s h) (expectedForecast (parametersOf s) x h)
   unfolding WithinLimit f F
-  forecast-close z = ((λ ns a. plain ns), (λ ss g a. of-season ss g a z))
+  forecast-close z = (plain, (λ ss. any-gain ss z))

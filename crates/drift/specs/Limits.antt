@@ -32,13 +32,13 @@ unfoldable pub SeasonalBound : Parameters → ℕ → ℤ → ℤ → Type 0
 SeasonalBound c n z Z =
     divisor c * distance n z Z ≤ (c .period * divisor c + 2 * (c .period * 65536 ^ suc (c .period))) * 65536 ^ n
 
--- a level in a cell: n/2. A forecast with no missing reading accepted before it: 1/(2α) without season, for α above 0; with one, for γ above 0 and α below 1, the limit above
+-- a level in a cell: n/2. A forecast with no missing reading accepted before it: 1/(2α) without season, the limit above with one (multiplied out, a limit that divides by 0 says nothing)
 unfoldable pub WithinLimit : Parameters → ℤ → Expected → Type 0
 WithinLimit c z (level-is L n) = HalfPerReading n z L
 WithinLimit c z (forecast-is F n missed) =
     missed ≡ 0
-    → (c .seasonal ≡ false → 0 < c .alpha → PlainBound c n z F)
-    × (c .seasonal ≡ true → 0 < c .gamma → c .alpha < 65536 → SeasonalBound c n z F)
+    → (c .seasonal ≡ false → PlainBound c n z F)
+    × (c .seasonal ≡ true → SeasonalBound c n z F)
 
 -- two lists of one length, number by number
 pub data EachWithin (c : Parameters) : List ℤ → List Expected → Type 0 where
