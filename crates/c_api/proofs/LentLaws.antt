@@ -1,14 +1,13 @@
 -- A call on a lent slice is the direct call on the state that its snapshot holds.
-use Prim.Native.Nat.{ℕ, zero, suc}
+use Prim.Native.Nat.{ℕ}
 use mathlib.Core.Path.{_≡_, refl, sym, _∙_}
 use mathlib.Core.Bool.{Bool, true, false, cond}
 use mathlib.Core.List.{List, [], append-nil}
-use native.Mathlib.Omega.{arith}
 use borrow.Author.Tests.{eq-eqb, eqb-true}
-use lib.Dec.{eqb, eqb·suc-zero}
+use lib.Dec.{eqb}
 use lib.IntN.{ℤ}
 use lib.ListN.{length, length-set, set}
-use Rattle.state.specs.Rejections.{unless, _then_, answer, out-of-place}
+use Rattle.state.specs.Rejections.{unless, _then_, out-of-place}
 use Rattle.state.specs.Models.{hasSeason}
 use Rattle.state.specs.States.{check}
 use Rattle.state.specs.declared.State.{State}

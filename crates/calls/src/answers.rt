@@ -1,5 +1,4 @@
 // The calls, and what each answers. A call that hands a state back prints it.
-use super::numbers::advanced;
 use super::numbers::signed32;
 use super::numbers::unsigned32;
 use super::printing::end_line;

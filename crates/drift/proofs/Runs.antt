@@ -9,7 +9,7 @@ use lib.ListN.{length, take, drop}
 use lib.Seq.{take-at}
 use borrow.Author.Tests.{eqb-true}
 use Rattle.state.proofs.Answers.{outcome-code, answer-code}
-use Rattle.state.specs.Rejections.{outcome, answer, outcomeCode, answerCode, answerValue}
+use Rattle.state.specs.Rejections.{answerValue}
 use Rattle.state.specs.Fixed.{isSentinel}
 use Rattle.state.specs.declared.State.{State}
 use Rattle.state.specs.declared.Outcome.the-variants as outcome-of

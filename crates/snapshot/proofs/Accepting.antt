@@ -1,21 +1,21 @@
 -- What an accepted snapshot has, command for command, and that what has it is accepted.
 use Prim.Native.Nat.{ℕ, zero, suc, _+_, _-_, _*_, _≤_, _<_}
 use mathlib.Core.Path.{_≡_, refl, sym, subst}
-use mathlib.Core.Bool.{Bool, true, false, cond, _&&_}
+use mathlib.Core.Bool.{true, _&&_}
 use mathlib.Core.Logic.{⊎-elim}
 use mathlib.Core.List.{List}
 use native.Mathlib.Nat.{le-of-suc-le-suc, eq-or-lt-of-le, not-suc-le-zero}
 use native.Mathlib.Numerals.{add-one}
 use native.Mathlib.Omega.{arith}
 use borrow.Author.Tests.{ltb-true, leb-true, eqb-true, lt-ltb, le-leb, eq-eqb, ne-eqb}
-use lib.Dec.{eqb, ltb, leb}
+use lib.Dec.{eqb, ltb}
 use lib.ListN.{length, getD}
 use Rattle.state.specs.Rejections.{unless, unknown-command, out-of-place, truncated}
 use Rattle.state.specs.Fixed.{inRange}
 use Rattle.state.specs.Models.{hasSeason, validModel, periodOk, parametersOk}
 use Rattle.state.specs.States.{trendOk, indexOk, countOk}
 use Rattle.state.proofs.Passing.{period-le}
-use Rattle.state.proofs.Tests.{both, unless-zero, then-zero}
+use Rattle.state.proofs.Tests.{unless-zero, then-zero}
 use Rattle.snapshot.specs.Bytes.{unsignedAt, signedAt}
 use Rattle.snapshot.specs.Snapshots.{isCommand, dueCode, modelCode, levelCode, seasonCode, seasonsCode, seasonsRead, positionCode, openCode, openOffset, sizeOf}
 

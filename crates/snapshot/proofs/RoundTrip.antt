@@ -7,7 +7,7 @@ use mathlib.Core.List.{List, _∷_, _++_, append-assoc}
 use native.Mathlib.Nat.{le-refl, zero-add, add-zero, le-of-suc-le-suc, eq-or-lt-of-le, not-suc-le-zero, lt-of-le-of-lt}
 use native.Mathlib.Omega.{arith}
 use borrow.Author.Tests.{eqb-true, ltb-true, ltb-false, leb-true, lt-ltb, le-ltb, le-leb}
-use lib.Dec.{lit<, eqb, ltb, leb, eqb·suc-zero}
+use lib.Dec.{lit<, eqb, ltb, leb}
 use lib.IntN.{ℤ, pos}
 use lib.ListN.{length, length-append, length-drop, length-set, getD-replicate, take, drop, getD, replicate, take-append-drop}
 use lib.Seq.{getD-drop, drop-drop, drop-at, take-at, drop-cons, take-suc, set-at, length-take-le, append-snoc, ext-getD, getD-set-same, getD-set-other, take-add, sets, sets-eq}
@@ -15,7 +15,7 @@ use mir.Syntax.{w64}
 use mir.Val.{SFits, ofZ}
 use Rattle.integers.specs.Bounds.{Within}
 use Rattle.integers.proofs.Bounds.{within-fits}
-use Rattle.state.specs.Rejections.{unless, outcome, outcomeCode, short-buffer}
+use Rattle.state.specs.Rejections.{unless, outcome, short-buffer}
 use Rattle.state.specs.Fixed.{inRange, isZero}
 use Rattle.state.specs.Models.{trendOf, seasonOf, validModel}
 use Rattle.state.specs.States.{check, cellOk}
