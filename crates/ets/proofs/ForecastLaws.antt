@@ -7,7 +7,7 @@ use native.Mathlib.Decide.{decLe}
 use native.Mathlib.Nat.{suc-mod, mod-lt, mod-eq-of-lt, mod-self}
 use native.Mathlib.Omega.{arith}
 use lib.Dec.{ltb, leb}
-use lib.IntN.{ℤ, pos, _+ℤ_, _*ℤ_}
+use lib.IntN.{ℤ, pos, _+ℤ_}
 use lib.Signed.{mag}
 use mir.Syntax.{w64}
 use mir.Val.{SFits, toZ, ofZ}
@@ -18,37 +18,35 @@ use borrow.Author.Tests.{lt-ltb, le-ltb, le-leb, leb-true}
 use Rattle.integers.specs.Bounds.{Within}
 use Rattle.integers.proofs.Difference.{back}
 use Rattle.integers.proofs.Bounds.{within-le, within-add, within-fits}
-use Rattle.state.specs.Fixed.{R}
+use Rattle.state.specs.Fixed.{share}
 use Rattle.state.specs.Models.{hasSeason}
 use Rattle.state.specs.States.{check}
 use Rattle.state.specs.declared.State.{State}
 use Rattle.state.proofs.Tests.{both, then-zero, unless-zero}
-use Rattle.state.proofs.Rounding.{R-gain}
-use Rattle.state.proofs.Passing.{bounded, range-in, no-season, with-season}
+use Rattle.state.proofs.Rounding.{share-within}
+use Rattle.state.specs.Valid.{Valid}
+use Rattle.state.proofs.Passing.{bounded, range-in}
 use Rattle.ets.specs.Steps.{nextIndex}
-use Rattle.ets.specs.Forecasts.{trendAt, trendLine, seasonAt, horizonOk, forecastCode, forecastFromCode, forecastOf, forecastList}
-use Rattle.ets.proofs.StepLaws.{first}
+use Rattle.ets.specs.Forecasts.{trendAt, trendLine, seasonAt, horizonOk, forecastCodeTo, forecastCode, forecastFromCode, forecastOf, forecastList}
 
 -- the horizon of a forecast that is not rejected
-pub horizon-in : (h : ℕ) → horizonOk h ≡ true → (1 ≤ h) × (h ≤ 512)
-horizon-in h e = let p = both (leb 1 h) (leb h 512) e in (leb-true 1 h (p .0), leb-true h 512 (p .1))
+pub record Ready (limit : ℕ) (s : State) (h : ℕ) : Type 0 where
+  pub valid : check s ≡ 0
+  pub least : 1 ≤ h
+  pub most : h ≤ limit
 
-pub forecast-ready : (s : State) (h : ℕ) → forecastCode s h ≡ 0 → (check s ≡ 0) × (1 ≤ h) × (h ≤ 512)
-unfolding forecastCode
-forecast-ready s h z =
+pub forecast-ready : (limit : ℕ) (s : State) (h : ℕ) → forecastCodeTo limit s h ≡ 0 → Ready limit s h
+unfolding forecastCodeTo
+forecast-ready limit s h z =
     let a = then-zero (check s) _ z in
-    let k = horizon-in h (unless-zero (horizonOk h) 10 (a .1)) in
-    (a .0, k .0, k .1)
-
-pub forecast-unchecked : (s : State) (h : ℕ) → (check s ≡ 0 → ⊥) → forecastCode s h ≡ check s
-unfolding forecastCode
-forecast-unchecked s h n = first (check s) _ n
+    let p = both (leb 1 h) (leb h limit) (unless-zero (horizonOk limit h) 10 (a .1)) in
+    record { valid = a .0; least = leb-true 1 h (p .0); most = leb-true h limit (p .1) }
 
 -- each trend is no larger than b
 pub trend-within : {n : ℕ} {b : ℤ} (F : ℕ) → F ≤ 65536 → Within n b → (j : ℕ) → Within n (trendAt F b j)
 unfolding trendAt
 trend-within F h w zero = w
-trend-within F h w (suc j) = R-gain h (trend-within F h w j)
+trend-within F h w (suc j) = share-within h (trend-within F h w j)
 
 pub line-within : {l b : ℤ} (F : ℕ) → F ≤ 65536 → Within 1099511627776 l → Within 1099511627776 b → (h : ℕ) → Within (1099511627776 + 1099511627776 * h) (trendLine l F b h)
 unfolding trendLine
@@ -100,16 +98,16 @@ ahead-none zero = refl
 ahead-none (suc i) = rw (ahead-none i)
 
 -- what the code reads at it is the season's value for the next horizon
-pub season-ahead : (s : State) → check s ≡ 0 → (i : ℕ) → seasonAt s (suc i) ≡ getD (s .seasonal) (ahead (s .period) (s .index) i) (pos 0)
+pub season-ahead : (s : State) → Valid s → (i : ℕ) → seasonAt s (suc i) ≡ getD (s .seasonal) (ahead (s .period) (s .index) i) (pos 0)
 unfolding seasonAt
-season-ahead s ok i = go (hasSeason (s .model)) refl
+season-ahead s v i = go (hasSeason (s .model)) refl
   where
     go : (t : Bool) → hasSeason (s .model) ≡ t → cond t (getD (s .seasonal) ((s .index + suc i - 1) % s .period) (pos 0)) (pos 0) ≡ getD (s .seasonal) (ahead (s .period) (s .index) i) (pos 0)
     go true h =
         let e : s .index + suc i - 1 ≡ s .index + i = omega arith in
-        rw (e, ahead-mod (s .period) (s .index) i (with-season s ok h .index))
+        rw (e, ahead-mod (s .period) (s .index) i (v .with-season h .index))
     go false h =
-        let none = no-season s ok h in
+        let none = v .no-season h in
         rw (none .period, none .index, ahead-none i) (sym (none .cells 0 (omega arith)))
 
 -- ---- the list of forecasts
@@ -127,7 +125,7 @@ list-more s i cells h =
     (set-at (forecastList s i) (getD cells i (pos 0)) (drop (suc i) cells) (forecastOf s (suc i)) i (list-length s i)
     ∙ sym (append-snoc (forecastList s i) (forecastOf s (suc i)) (drop (suc i) cells)))
 
--- ---- a turn of the loops: d is the trend and l the line of i steps from numbers within their bounds, and r is R(F × d)
+-- ---- a turn of the loops: d is the trend and l the line of i steps from numbers within their bounds, and r is the share F of d
 pub record Turn (l : ℤ) (F : ℕ) (b : ℤ) (i : ℕ) (line r : ℤ) : Type 0 where
   pub trend : toZ w64 (ofZ w64 r) ≡ trendAt F b (suc i)
   pub fits : SFits w64 (line +ℤ toZ w64 (ofZ w64 r))
@@ -140,7 +138,7 @@ module _ (l : ℤ) (F : ℕ) (b : ℤ) (f : F ≤ 65536) (wl : Within 1099511627
   pub trend-bound : (i : ℕ) → Within 8796093022208 (trendAt F b i)
   trend-bound i = within-le 8796093022208 (omega arith) (trend-within F f wb i)
 
-  pub turn : (i : ℕ) → i < 512 → (d line r : ℤ) → d ≡ trendAt F b i → line ≡ trendLine l F b i → mag r < 2 ^ 63 → r ≡ R (pos F *ℤ d) → Turn l F b i line r
+  pub turn : (i : ℕ) → i < 512 → (d line r : ℤ) → d ≡ trendAt F b i → line ≡ trendLine l F b i → mag r < 2 ^ 63 → r ≡ share F d → Turn l F b i line r
   unfolding trendAt trendLine
   turn i h d line r ed el fr er =
       let t : toZ w64 (ofZ w64 r) ≡ trendAt F b (suc i) = back w64 r fr ∙ er ∙ rw ed in
@@ -149,7 +147,7 @@ module _ (l : ℤ) (F : ℕ) (b : ℤ) (f : F ≤ 65536) (wl : Within 1099511627
 
 -- ---- the forecast on the numbers of a state that passes its checks, with any season value in range, is rejected as the state's
 pub from-code : (s : State) → check s ≡ 0 → (v : ℤ) → Within 1099511627776 v → (h : ℕ) → forecastFromCode (s .level) (s .phi) (s .trend) v h ≡ forecastCode s h
-unfolding forecastCode
+unfolding forecastCodeTo
 from-code s ok v w h =
     let b = bounded s ok in
     rw (ok, le-leb _ _ (b .phi), range-in _ (b .level), range-in _ (b .trend), range-in _ w)

@@ -2,11 +2,11 @@
 use Prim.Native.Nat.{ℕ, zero, suc, _+_, _-_, _%_}
 use mathlib.Core.Bool.{Bool, cond, _&&_}
 use mathlib.Core.List.{List, [], _∷_, _++_}
-use lib.Dec.{eqb, leb}
-use lib.IntN.{ℤ, pos, _+ℤ_, _*ℤ_}
+use lib.Dec.{leb}
+use lib.IntN.{ℤ, pos, _+ℤ_}
 use lib.ListN.{length, drop, getD}
-use Rattle.state.specs.Rejections.{unless, _then_, outcome, answer, bad-parameter, bad-value, bad-horizon, short-buffer}
-use Rattle.state.specs.Fixed.{R, inRange}
+use Rattle.state.specs.Rejections.{unless, _then_, accepting, outcome, answer, bad-parameter, bad-value, bad-horizon, short-buffer}
+use Rattle.state.specs.Fixed.{share, inRange}
 use Rattle.state.specs.Models.{hasSeason}
 use Rattle.state.specs.States.{check}
 use Rattle.state.specs.declared.State.{State}
@@ -16,7 +16,7 @@ use Rattle.state.specs.declared.Outcome.{Outcome}
 -- d1 = R(F × b), and each next d is R(F × the one before)
 unfoldable pub trendAt : ℕ → ℤ → ℕ → ℤ
 trendAt F b zero = b
-trendAt F b (suc j) = R (pos F *ℤ trendAt F b j)
+trendAt F b (suc j) = share F (trendAt F b j)
 
 -- l, plus d1 to dh
 unfoldable pub trendLine : ℤ → ℕ → ℤ → ℕ → ℤ
@@ -31,38 +31,59 @@ unfoldable pub forecastOf : State → ℕ → ℤ
 forecastOf s h = trendLine (s .level) (s .phi) (s .trend) h +ℤ seasonAt s h
 
 -- the horizon h is 1 to 512
-abbrev pub horizonOk : ℕ → Bool
-horizonOk h = leb 1 h && leb h 512
+abbrev pub maxHorizon : ℕ
+maxHorizon = 512
 
--- what rejects a forecast, or 0
-unfoldable pub forecastCode : State → ℕ → ℕ
-forecastCode s h = check s then unless (horizonOk h) bad-horizon
+abbrev pub horizonOk : ℕ → ℕ → Bool
+horizonOk limit h = leb 1 h && leb h limit
 
-unfoldable pub forecast : State → ℕ → Answer
-forecast s h = answer (forecastCode s h) (forecastOf s h)
+-- what rejects a forecast, or 0: the state's checks, then a horizon above the limit
+unfoldable pub forecastCodeTo : ℕ → State → ℕ → ℕ
+forecastCodeTo limit s h = check s then unless (horizonOk limit h) bad-horizon
 
--- the same on numbers: l, F, b and the season's value for the horizon
-abbrev pub forecastFromCode : ℤ → ℕ → ℤ → ℤ → ℕ → ℕ
-forecastFromCode l F b s h =
-    unless (leb F 65536) bad-parameter
-    then unless (inRange l && inRange b && inRange s) bad-value
-    then unless (horizonOk h) bad-horizon
-
-unfoldable pub forecastFrom : ℤ → ℕ → ℤ → ℤ → ℕ → Answer
-forecastFrom l F b s h = answer (forecastFromCode l F b s h) (trendLine l F b h +ℤ s)
+-- the call for one horizon
+unfoldable pub forecastTo : ℕ → State → ℕ → Answer
+forecastTo limit s h = answer (forecastCodeTo limit s h) (forecastOf s h)
 
 -- the forecasts for the horizons 1 to h
 unfoldable pub forecastList : State → ℕ → List ℤ
 forecastList s zero = []
 forecastList s (suc h) = forecastList s h ++ (forecastOf s (suc h) ∷ [])
 
-unfoldable pub forecastsCode : State → ℕ → ℕ → ℕ
-forecastsCode s h room = forecastCode s h then unless (leb h room) short-buffer
+unfoldable pub forecastsCodeTo : ℕ → State → ℕ → ℕ → ℕ
+forecastsCodeTo limit s h room = forecastCodeTo limit s h then unless (leb h room) short-buffer
 
 -- a call for all horizons fills the first h cells only, and none where it is rejected
-unfoldable pub forecasts : State → ℕ → ℕ → Outcome
-forecasts s h room = outcome (forecastsCode s h room)
+unfoldable pub forecastsTo : ℕ → State → ℕ → ℕ → Outcome
+forecastsTo limit s h room = outcome (forecastsCodeTo limit s h room)
 
-unfoldable pub forecastCells : State → ℕ → List ℤ → List ℤ
-forecastCells s h cells =
-    cond (eqb (forecastsCode s h (length cells)) 0) (forecastList s h ++ drop h cells) cells
+unfoldable pub forecastCellsTo : ℕ → State → ℕ → List ℤ → List ℤ
+forecastCellsTo limit s h cells =
+    accepting (forecastsCodeTo limit s h (length cells)) (forecastList s h ++ drop h cells) (λ _. cells)
+
+-- ---- the calls, with horizons up to 512
+
+abbrev pub forecastCode : State → ℕ → ℕ
+forecastCode = forecastCodeTo maxHorizon
+
+abbrev pub forecast : State → ℕ → Answer
+forecast = forecastTo maxHorizon
+
+abbrev pub forecastsCode : State → ℕ → ℕ → ℕ
+forecastsCode = forecastsCodeTo maxHorizon
+
+abbrev pub forecasts : State → ℕ → ℕ → Outcome
+forecasts = forecastsTo maxHorizon
+
+abbrev pub forecastCells : State → ℕ → List ℤ → List ℤ
+forecastCells = forecastCellsTo maxHorizon
+
+-- ---- the call on numbers: l, F, b and the season's value for the horizon; 7, 9, then 11
+abbrev pub forecastFromCode : ℤ → ℕ → ℤ → ℤ → ℕ → ℕ
+forecastFromCode l F b s h =
+    unless (leb F 65536) bad-parameter
+    then unless (inRange l && inRange b && inRange s) bad-value
+    then unless (horizonOk maxHorizon h) bad-horizon
+
+unfoldable pub forecastFrom : ℤ → ℕ → ℤ → ℤ → ℕ → Answer
+forecastFrom l F b s h = answer (forecastFromCode l F b s h) (trendLine l F b h +ℤ s)

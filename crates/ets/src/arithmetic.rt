@@ -1,17 +1,25 @@
 // The arithmetic of one step, on numbers within the bounds of a state that passed its checks.
+use super::Numbers;
+use super::Terms;
 use super::Update;
 use state::BAD_READING;
 use state::COUNT_FULL;
 use state::LEAVES_RANGE;
 use state::MAX_COUNT;
+use state::State;
 use state::checks::in_range;
+use state::checks::is_reading;
+use state::first;
+use state::unless;
 ghost use mathlib.Core.Path.{_≡_};
-ghost use Prim.Native.Nat.{_≤_};
-ghost use lib.IntN.{pos, _*ℤ_};
+ghost use mathlib.Core.Bool.{_&&_};
+ghost use Prim.Native.Nat.{_≤_, _<_};
 ghost use Rattle.integers.specs.Bounds.{Within};
-ghost use Rattle.state.specs.Fixed.{R, isReading};
-ghost use Rattle.ets.specs.Steps.{nextIndex};
-ghost use Rattle.ets.specs.Updates.{Gains, Ranges, updated, notTaken, staysBy, readingCode, readingUpdate};
+ghost use Rattle.state.specs.Rejections.{unless, _then_, bad-reading};
+ghost use Rattle.state.specs.Fixed.{R, share, inRange, isReading};
+ghost use Rattle.ets.specs.Steps.{residual, nextIndex, countCode};
+ghost use Rattle.ets.specs.Updates.{numbersOf, termsAt, corrections, notUpdated, readingUpdate};
+ghost use Rattle.ets.specs.Bounds.{NumbersIn, TermsIn};
 
 // R(v): the sum before the shift makes it round to nearest, halves up.
 fn round(v: i64) -> i64
@@ -21,35 +29,73 @@ fn round(v: i64) -> i64
     (v + 32768) >> 16
 }
 
-// R(a × x): a gain's share of x.
-pub fn gain(a: u32, x: i64) -> i64
+// R(a × x): the share that a parameter gives of x.
+pub fn share(a: u32, x: i64) -> i64
     requires { ⌜ (a ≤ 65536) × Within 8796093022208 x ⌝ }
-    ensures { λ r. ⌜ r ≡ R (pos a *ℤ x) ⌝ }
+    ensures { λ r. ⌜ r ≡ share a x ⌝ }
 {
     round((a as i64) * x)
 }
 
-fn advance(a: u32, b: u32, g: u32, f: u32, level: i64, trend: i64, season: i64, y: i32) -> Update
-    requires { ⌜ Gains a b g f × Ranges level trend season × Within 1000000 y ⌝ }
-    ensures { λ r. ⌜ r ≡ updated a b g f level trend season y ⌝ }
+// The numbers of a state that a step reads.
+pub fn numbers_of(s: State) -> Numbers
+    requires { ⌜ s .index < 48 ⌝ }
+    ensures { λ r. ⌜ r ≡ numbersOf s ⌝ }
 {
-    let d = gain(f, trend);
-    let t = level + d;
-    let e = 65536 * (y as i64) - (t + season);
+    let p = s.index as usize;
+    let season = s.seasonal[p];
+    Numbers {
+        alpha: s.alpha,
+        beta: s.beta,
+        gamma: s.gamma,
+        phi: s.phi,
+        level: s.level,
+        trend: s.trend,
+        season,
+        count: s.count,
+    }
+}
+
+fn terms(n: Numbers) -> Terms
+    requires { ⌜ NumbersIn n ⌝ }
+    ensures { λ r. ⌜ r ≡ termsAt n ⌝ }
+{
+    Terms {
+        alpha: n.alpha,
+        beta: n.beta,
+        gamma: n.gamma,
+        level: n.level,
+        damped: share(n.phi, n.trend),
+        season: n.season,
+    }
+}
+
+fn residual(t: Terms, y: i32) -> i64
+    requires { ⌜ TermsIn t × Within 1000000 y ⌝ }
+    ensures value { λ r. ⌜ r ≡ residual t y ⌝ }
+    ensures bound { λ r. ⌜ Within 3364070883328 r ⌝ }
+{
+    65536 * (y as i64) - (t.level + t.damped + t.season)
+}
+
+fn correct(t: Terms, e: i64) -> Update
+    requires { ⌜ TermsIn t × Within 3364070883328 e ⌝ }
+    ensures { λ r. ⌜ r ≡ corrections t e ⌝ }
+{
     Update {
         code: 0,
-        level: t + gain(a, e),
-        trend: d + gain(b, e),
-        season: season + gain(g, e),
+        level: t.level + t.damped + share(t.alpha, e),
+        trend: t.damped + share(t.beta, e),
+        season: t.season + share(t.gamma, e),
         residual: e,
     }
 }
 
-pub fn not_taken(code: u8) -> Update
-    ensures { λ r. ⌜ r ≡ notTaken code ⌝ }
+pub fn not_updated(code: u8) -> Update
+    ensures { λ r. ⌜ r ≡ notUpdated code ⌝ }
 {
     Update {
-        code: code,
+        code,
         level: 0,
         trend: 0,
         season: 0,
@@ -58,48 +104,39 @@ pub fn not_taken(code: u8) -> Update
 }
 
 fn stays(u: Update) -> bool
-    ensures { λ r. ⌜ r ≡ staysBy u ⌝ }
+    ensures { λ r. ⌜ r ≡ (inRange (u .level) && inRange (u .trend) && inRange (u .season)) ⌝ }
 {
     in_range(u.level) & in_range(u.trend) & in_range(u.season)
 }
 
-fn is_reading(y: i32) -> bool
-    ensures { λ r. ⌜ r ≡ isReading y ⌝ }
+pub fn count_code(count: u64) -> u8
+    ensures { λ r. ⌜ r ≡ countCode count ⌝ }
 {
-    (-1_000_000 <= y) & (y <= 1_000_000)
+    unless(count != MAX_COUNT, COUNT_FULL)
 }
 
-fn reading_code(count: u64, y: i32) -> u8
-    ensures { λ r. ⌜ r ≡ readingCode count y ⌝ }
+// 13, then 14.
+fn early_code(count: u64, y: i32) -> u8
+    ensures { λ r. ⌜ r ≡ (unless (isReading y) bad-reading then countCode count) ⌝ }
 {
-    if is_reading(y) {
-        if count == MAX_COUNT { COUNT_FULL } else { 0 }
-    } else {
-        BAD_READING
-    }
+    first(unless(is_reading(y), BAD_READING), count_code(count))
 }
 
 // A reading: its rejection (13, 14, 15), or the numbers after it.
-pub fn read(
-    a: u32,
-    b: u32,
-    g: u32,
-    f: u32,
-    level: i64,
-    trend: i64,
-    season: i64,
-    count: u64,
-    y: i32,
-) -> Update
-    requires { ⌜ Gains a b g f × Ranges level trend season ⌝ }
-    ensures { λ r. ⌜ r ≡ readingUpdate a b g f level trend season count y ⌝ }
+pub fn read(n: Numbers, y: i32) -> Update
+    requires { ⌜ NumbersIn n ⌝ }
+    ensures { λ r. ⌜ r ≡ readingUpdate n y ⌝ }
 {
-    let n = reading_code(count, y);
-    if n == 0 {
-        let u = advance(a, b, g, f, level, trend, season, y);
-        if stays(u) { u } else { not_taken(LEAVES_RANGE) }
+    let code = early_code(n.count, y);
+    if code != 0 {
+        return not_updated(code);
+    }
+    let t = terms(n);
+    let u = correct(t, residual(t, y));
+    if stays(u) {
+        u
     } else {
-        not_taken(n)
+        not_updated(LEAVES_RANGE)
     }
 }
 

@@ -1,39 +1,47 @@
 // Forecasts from a state by value: for one horizon, and for all of them into a lent buffer.
-use super::arithmetic::gain;
 use super::arithmetic::next_index;
+use super::arithmetic::share;
 use state::Answer;
 use state::BAD_HORIZON;
 use state::BAD_PARAMETER;
 use state::BAD_VALUE;
+use state::ONE;
 use state::Outcome;
 use state::SHORT_BUFFER;
 use state::State;
 use state::checks::check;
 use state::checks::in_range;
-use state::models::season_of;
+use state::first;
+use state::models::has_season;
+use state::unless;
 ghost use mathlib.Core.Path.{_≡_};
 ghost use mathlib.Core.List.{_++_};
 ghost use Prim.Native.Nat.{_≤_};
 ghost use lib.ListN.{length, drop};
 ghost use Rattle.integers.specs.Bounds.{Within};
-ghost use Rattle.state.specs.States.{check};
-ghost use Rattle.ets.specs.Forecasts.{horizonOk, trendLine, seasonAt, forecastCode, forecast, forecastFromCode, forecastFrom, forecastList, forecasts, forecastCells};
+ghost use Rattle.state.specs.Valid.{Valid};
+ghost use Rattle.ets.specs.Forecasts.{horizonOk, trendLine, seasonAt, forecastCodeTo, forecastTo, forecastList, forecastsTo, forecastCellsTo, forecastCode, forecast, forecasts, forecastCells, forecastFromCode, forecastFrom};
 
-fn horizon_ok(h: u32) -> bool
-    ensures { λ r. ⌜ r ≡ horizonOk h ⌝ }
+// The longest horizon.
+const MAX_HORIZON: u32 = 512;
+
+fn horizon_ok(limit: u32, h: u32) -> bool
+    ensures { λ r. ⌜ r ≡ horizonOk limit h ⌝ }
 {
-    (1 <= h) & (h <= 512)
+    (1 <= h) & (h <= limit)
+}
+
+fn forecast_code_to(limit: u32, s: State, h: u32) -> u8
+    ensures { λ r. ⌜ r ≡ forecastCodeTo limit s h ⌝ }
+{
+    first(check(s), unless(horizon_ok(limit, h), BAD_HORIZON))
 }
 
 // What rejects a forecast, or 0.
 pub fn forecast_code(s: State, h: u32) -> u8
     ensures { λ r. ⌜ r ≡ forecastCode s h ⌝ }
 {
-    let n = check(s);
-    if n != 0 {
-        return n;
-    }
-    if horizon_ok(h) { 0 } else { BAD_HORIZON }
+    forecast_code_to(MAX_HORIZON, s, h)
 }
 
 // The level and the trends of h steps.
@@ -45,18 +53,18 @@ fn trend_line(level: i64, phi: u32, trend: i64, h: u32) -> i64
     let mut line = level;
     let mut d = trend;
     for j in 0..h {
-        d = gain(phi, d);
+        d = share(phi, d);
         line = line + d;
     }
     line
 }
 
 fn season_at(s: State, h: u32) -> i64
-    requires { ⌜ (check s ≡ 0) × (1 ≤ h) × (h ≤ 512) ⌝ }
+    requires { ⌜ Valid s × (1 ≤ h) × (h ≤ 512) ⌝ }
     ensures value { λ r. ⌜ r ≡ seasonAt s h ⌝ }
     ensures bound { λ r. ⌜ Within 1099511627776 r ⌝ }
 {
-    if season_of(s.model) == 0 {
+    if !has_season(s.model) {
         return 0;
     }
     let p = s.index as u32;
@@ -65,30 +73,74 @@ fn season_at(s: State, h: u32) -> i64
     s.seasonal[k]
 }
 
-// The forecast for one horizon.
-pub fn forecast(s: State, h: u32) -> Answer
-    ensures { λ r. ⌜ r ≡ forecast s h ⌝ }
+fn forecast_to(limit: u32, s: State, h: u32) -> Answer
+    requires { ⌜ limit ≤ 512 ⌝ }
+    ensures { λ r. ⌜ r ≡ forecastTo limit s h ⌝ }
 {
-    let n = forecast_code(s, h);
+    let n = forecast_code_to(limit, s, h);
     if n != 0 {
         return Answer::Rejected(n);
     }
     Answer::Accepted(trend_line(s.level, s.phi, s.trend, h) + season_at(s, h))
 }
 
+// The forecast for one horizon.
+pub fn forecast(s: State, h: u32) -> Answer
+    ensures { λ r. ⌜ r ≡ forecast s h ⌝ }
+{
+    forecast_to(MAX_HORIZON, s, h)
+}
+
+// The forecasts for the horizons 1 to h: the trend and the seasonal index move on from one to the next.
+fn fill(s: State, h: usize, values: &mut [i64])
+    requires { ⌜ Valid s × (h ≤ 512) × (h ≤ length (now values)) ⌝ }
+    ensures { λ _. ⌜ now (values .exit) ≡ forecastList s h ++ drop h (now (values .entry)) ⌝ }
+{
+    let mut line = s.level;
+    let mut d = s.trend;
+    let mut p = s.index;
+    let mut i = 0;
+    while i < h {
+        d = share(s.phi, d);
+        line = line + d;
+        let k = p as usize;
+        let season = s.seasonal[k];
+        values[i] = line + season;
+        p = next_index(s.period, p);
+        i += 1;
+    }
+}
+
+fn forecasts_to(limit: u32, s: State, h: u32, values: &mut [i64]) -> Outcome
+    requires { ⌜ limit ≤ 512 ⌝ }
+    ensures answer { λ r. ⌜ r ≡ forecastsTo limit s h (length (now (values .entry))) ⌝ }
+    ensures buffer { λ _. ⌜ now (values .exit) ≡ forecastCellsTo limit s h (now (values .entry)) ⌝ }
+{
+    let count = h as usize;
+    let room = unless(count <= values.len(), SHORT_BUFFER);
+    let n = first(forecast_code_to(limit, s, h), room);
+    if n != 0 {
+        return Outcome::Rejected(n);
+    }
+    fill(s, count, values);
+    Outcome::Accepted
+}
+
+// The forecasts for all horizons to h, in the first h elements of a buffer; a rejected call writes nothing.
+pub fn forecasts(s: State, h: u32, values: &mut [i64]) -> Outcome
+    ensures answer { λ r. ⌜ r ≡ forecasts s h (length (now (values .entry))) ⌝ }
+    ensures buffer { λ _. ⌜ now (values .exit) ≡ forecastCells s h (now (values .entry)) ⌝ }
+{
+    forecasts_to(MAX_HORIZON, s, h, values)
+}
+
 // What rejects a forecast on numbers, or 0.
 fn from_code(level: i64, phi: u32, trend: i64, season: i64, h: u32) -> u8
     ensures { λ r. ⌜ r ≡ forecastFromCode level phi trend season h ⌝ }
 {
-    if phi <= 65536 {
-        if in_range(level) & in_range(trend) & in_range(season) {
-            if horizon_ok(h) { 0 } else { BAD_HORIZON }
-        } else {
-            BAD_VALUE
-        }
-    } else {
-        BAD_PARAMETER
-    }
+    let ranges = in_range(level) & in_range(trend) & in_range(season);
+    let code = first(unless(phi <= ONE, BAD_PARAMETER), unless(ranges, BAD_VALUE));
+    first(code, unless(horizon_ok(MAX_HORIZON, h), BAD_HORIZON))
 }
 
 // The forecast on numbers: the level, phi, the trend and the season value of the horizon.
@@ -100,41 +152,4 @@ pub fn forecast_from(level: i64, phi: u32, trend: i64, season: i64, h: u32) -> A
         return Answer::Rejected(n);
     }
     Answer::Accepted(trend_line(level, phi, trend, h) + season)
-}
-
-// The forecasts for the horizons 1 to h: the trend and the seasonal index move on from one to the next.
-fn fill(s: State, h: usize, values: &mut [i64])
-    requires { ⌜ (check s ≡ 0) × (h ≤ 512) × (h ≤ length (now values)) ⌝ }
-    ensures { λ _. ⌜ now (values .exit) ≡ forecastList s h ++ drop h (now (values .entry)) ⌝ }
-{
-    let mut line = s.level;
-    let mut d = s.trend;
-    let mut p = s.index;
-    let mut i = 0;
-    while i < h {
-        d = gain(s.phi, d);
-        line = line + d;
-        let k = p as usize;
-        let season = s.seasonal[k];
-        values[i] = line + season;
-        p = next_index(s.period, p);
-        i += 1;
-    }
-}
-
-// The forecasts for all horizons to h, in the first h elements of a buffer; a rejected call writes nothing.
-pub fn forecasts(s: State, h: u32, values: &mut [i64]) -> Outcome
-    ensures answer { λ r. ⌜ r ≡ forecasts s h (length (now (values .entry))) ⌝ }
-    ensures buffer { λ _. ⌜ now (values .exit) ≡ forecastCells s h (now (values .entry)) ⌝ }
-{
-    let n = forecast_code(s, h);
-    if n != 0 {
-        return Outcome::Rejected(n);
-    }
-    let count = h as usize;
-    if values.len() < count {
-        return Outcome::Rejected(SHORT_BUFFER);
-    }
-    fill(s, count, values);
-    Outcome::Accepted
 }

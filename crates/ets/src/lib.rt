@@ -22,6 +22,16 @@ pub struct Numbers {
     pub count: u64,
 }
 
+// What a step is made of: the gains, the level, the damped trend (document 01's d) and the season value that is due.
+pub struct Terms {
+    pub alpha: u32,
+    pub beta: u32,
+    pub gamma: u32,
+    pub level: i64,
+    pub damped: i64,
+    pub season: i64,
+}
+
 // What a reading makes of them. code is the rejection or 0.
 pub struct Update {
     pub code: u8,

@@ -2,14 +2,15 @@
 use super::Missed;
 use super::Stepped;
 use super::Update;
+use super::arithmetic::count_code;
 use super::arithmetic::next_index;
+use super::arithmetic::numbers_of;
 use super::arithmetic::read;
 use state::Answer;
-use state::COUNT_FULL;
-use state::MAX_COUNT;
 use state::Outcome;
 use state::State;
 use state::checks::check;
+use state::first;
 ghost use mathlib.Core.Path.{_≡_};
 ghost use Prim.Native.Nat.{_<_};
 ghost use Rattle.state.specs.Fixed.{maxCount};
@@ -17,7 +18,7 @@ ghost use Rattle.ets.specs.Steps.{step, missing};
 ghost use Rattle.ets.specs.Updates.{stored};
 
 // A rejected call hands back the state as it came.
-fn refused(s: State, n: u8) -> Stepped
+fn rejected_step(s: State, n: u8) -> Stepped
     ensures { λ r. ⌜ r ≡ record { state = s; residual = Answer.Rejected n } ⌝ }
 {
     Stepped {
@@ -26,15 +27,7 @@ fn refused(s: State, n: u8) -> Stepped
     }
 }
 
-fn not_missed(s: State, n: u8) -> Missed
-    ensures { λ r. ⌜ r ≡ record { state = s; outcome = Outcome.Rejected n } ⌝ }
-{
-    Missed {
-        state: s,
-        outcome: Outcome::Rejected(n),
-    }
-}
-
+// The state one step on, with an update's numbers.
 fn store(s: State, u: Update) -> State
     requires { ⌜ (s .index < 48) × (s .count < maxCount) ⌝ }
     ensures { λ r. ⌜ r ≡ stored s u ⌝ }
@@ -50,30 +43,17 @@ fn store(s: State, u: Update) -> State
     next
 }
 
-// One step.
 pub fn step(s: State, y: i32) -> Stepped
     ensures { λ r. ⌜ r ≡ step s y ⌝ }
 {
     let n = check(s);
     if n != 0 {
-        return refused(s, n);
+        return rejected_step(s, n);
     }
-    let p = s.index as usize;
-    let season = s.seasonal[p];
-    let u = read(
-        s.alpha,
-        s.beta,
-        s.gamma,
-        s.phi,
-        s.level,
-        s.trend,
-        season,
-        s.count,
-        y,
-    );
+    let u = read(numbers_of(s), y);
     let k = u.code;
     if k != 0 {
-        return refused(s, k);
+        return rejected_step(s, k);
     }
     let e = u.residual;
     Stepped {
@@ -82,16 +62,15 @@ pub fn step(s: State, y: i32) -> Stepped
     }
 }
 
-// A missing reading.
 pub fn missing(s: State) -> Missed
     ensures { λ r. ⌜ r ≡ missing s ⌝ }
 {
-    let n = check(s);
+    let n = first(check(s), count_code(s.count));
     if n != 0 {
-        return not_missed(s, n);
-    }
-    if s.count == MAX_COUNT {
-        return not_missed(s, COUNT_FULL);
+        return Missed {
+            state: s,
+            outcome: Outcome::Rejected(n),
+        };
     }
     let mut next = s;
     next.index = next_index(s.period, s.index);

@@ -1,18 +1,23 @@
 // The step on numbers: no state is copied, and no other season value is looked at.
 use super::Numbers;
 use super::Update;
-use super::arithmetic::not_taken;
+use super::arithmetic::not_updated;
 use super::arithmetic::read;
 use state::BAD_PARAMETER;
+use state::BAD_POSITION;
 use state::BAD_VALUE;
+use state::ONE;
+use state::checks::count_ok;
 use state::checks::in_range;
+use state::first;
+use state::unless;
 ghost use mathlib.Core.Path.{_≡_};
-ghost use Rattle.ets.specs.Updates.{gainsOk, rangesOk, numbersCode, updateOf};
+ghost use Rattle.ets.specs.Updates.{gainsOk, rangesOk, numbersCode, update};
 
 fn gains_ok(n: Numbers) -> bool
     ensures { λ r. ⌜ r ≡ gainsOk n ⌝ }
 {
-    (n.alpha <= 65536) & (n.beta <= 65536) & (n.gamma <= 65536) & (n.phi <= 65536)
+    (n.alpha <= ONE) & (n.beta <= ONE) & (n.gamma <= ONE) & (n.phi <= ONE)
 }
 
 fn ranges_ok(n: Numbers) -> bool
@@ -24,30 +29,20 @@ fn ranges_ok(n: Numbers) -> bool
 fn numbers_code(n: Numbers) -> u8
     ensures { λ r. ⌜ r ≡ numbersCode n ⌝ }
 {
-    if gains_ok(n) {
-        if ranges_ok(n) { 0 } else { BAD_VALUE }
-    } else {
-        BAD_PARAMETER
-    }
+    let code = first(
+        unless(gains_ok(n), BAD_PARAMETER),
+        unless(ranges_ok(n), BAD_VALUE),
+    );
+    first(code, unless(count_ok(n.count), BAD_POSITION))
 }
 
 // A reading on the numbers of a state: what it makes of them, or the rejection.
 pub fn update(n: Numbers, y: i32) -> Update
-    ensures { λ r. ⌜ r ≡ updateOf n y ⌝ }
+    ensures { λ r. ⌜ r ≡ update n y ⌝ }
 {
     let code = numbers_code(n);
     if code != 0 {
-        return not_taken(code);
+        return not_updated(code);
     }
-    read(
-        n.alpha,
-        n.beta,
-        n.gamma,
-        n.phi,
-        n.level,
-        n.trend,
-        n.season,
-        n.count,
-        y,
-    )
+    read(n, y)
 }

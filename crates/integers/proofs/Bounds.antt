@@ -1,4 +1,4 @@
--- Orders and bounds of ℤ: the orders at a readable precedence, and the laws of `Within`.
+-- The laws of `Within`.
 use Prim.Native.Nat.{ℕ, _+_, _*_, _-_, _^_, _≤_, _<_}
 use native.Mathlib.Nat.{mul-le-mul-left, mul-le-mul-right}
 use native.Mathlib.Omega.{arith}
@@ -6,17 +6,11 @@ use lib.IntN.{ℤ, pos, negℤ, _+ℤ_, _-ℤ_, _*ℤ_}
 use lib.Signed.{_≤ℤ_, _<ℤ_}
 use mathlib.Core.Logic.{_↔_}
 use mir.Syntax.{Width}
-use mir.Val.{SFits, hbits}
+use mir.Val.{SFits, hbits, toZ, ofZ}
+use mir.ValLaws.{toZ-ofZ}
+use mathlib.Core.Path.{_≡_}
 use Rattle.integers.specs.Bounds.{Within}
 use Rattle.integers.proofs.Difference.{_⊖_, diff, known, up, dn}
-
--- the orders, at a precedence below + and * (that of `_≤ℤ_` is above them, so that `x +ℤ z ≤ℤ y` is read `x +ℤ (z ≤ℤ y)`)
-infix 4 _≤ᶻ_ _<ᶻ_
-abbrev pub _≤ᶻ_ : ℤ → ℤ → Type 0
-x ≤ᶻ y = x ≤ℤ y
-
-abbrev pub _<ᶻ_ : ℤ → ℤ → Type 0
-x <ᶻ y = x <ℤ y
 
 pub ⊖-within : (n p q : ℕ) → Within n (p ⊖ q) ↔ ((q ≤ p + n) × (p ≤ n + q))
 ⊖-within n p q = ((λ w. plain (w .low, w .high)), (λ h. record { low = within h .0; high = within h .1 }))
@@ -52,3 +46,7 @@ within-mul {a} {A} {n} {x} = rw (known x) (simp zs (λ h k. omega (arith, mul-le
 
 pub within-fits : {n : ℕ} {x : ℤ} (w : Width) → Within n x → n < 2 ^ hbits w → SFits w x
 within-fits {n} {x} w = rw (known x) (simp zs (omega arith))
+
+-- so it is read back as it was
+pub within-back : {n : ℕ} {x : ℤ} (w : Width) → Within n x → n < 2 ^ hbits w → toZ w (ofZ w x) ≡ x
+within-back w h k = toZ-ofZ w _ (within-fits w h k)

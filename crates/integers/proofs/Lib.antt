@@ -1,3 +1,2 @@
 pub mod Difference
 pub mod Bounds
-pub mod Ring

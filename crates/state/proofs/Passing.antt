@@ -1,10 +1,10 @@
 -- What a state has that the checks let pass, and that what has it passes.
 use Prim.Native.Nat.{ℕ, _<_, _≤_}
-use mathlib.Core.Path.{_≡_}
+use mathlib.Core.Path.{_≡_, refl}
 use mathlib.Core.Bool.{Bool, true, false, cond, _&&_}
 use native.Mathlib.Omega.{arith}
 use lib.Dec.{eqb, ltb, leb}
-use lib.IntN.{ℤ, pos, negsuc}
+use lib.IntN.{ℤ, pos, negℤ}
 use lib.Signed.{leZ}
 use lib.ListN.{getD}
 use borrow.Author.Tests.{ltb-true, leb-true, eqb-true, eq-eqb, ne-eqb, le-ltb, not-false}
@@ -12,9 +12,10 @@ use Rattle.integers.specs.Bounds.{Within}
 use Rattle.integers.proofs.Difference.{ints}
 use Rattle.integers.proofs.Bounds.{within-zero}
 use Rattle.state.specs.Rejections.{_then_}
-use Rattle.state.specs.Fixed.{inRange, isReading, isZero, maxCount}
+use Rattle.state.specs.Fixed.{within, inRange, isReading, isZero, maxCount}
 use Rattle.state.specs.Models.{trendOf, hasTrend, hasSeason, validModel, periodOk, gainOk, dampingOk}
-use Rattle.state.specs.States.{trendOk, cellOk, seasonalOk, indexOk, countOk, check}
+use Rattle.state.specs.States.{trendOk, cellOk, seasonalOk, indexOk, countOk, check, noState}
+use Rattle.state.specs.Valid.{Bounded, NoTrend, NoSeason, Seasonal, Valid}
 use Rattle.state.specs.declared.State.{State}
 use Rattle.state.proofs.Tests.{both, unless-zero, then-zero, zero-is, allBelow-at}
 
@@ -64,18 +65,30 @@ unfolding check
 passes s p =
     rw (p .model, p .period, p .alpha, p .beta, p .gamma, p .phi, p .level, p .trend, p .seasonal, p .index, p .count)
 
--- ---- the tests as bounds
-pub in-range : (v : ℤ) → inRange v ≡ true → Within 1099511627776 v
-in-range v h = let p = both (leZ (negsuc 1099511627775) v) (leZ v (pos 1099511627776)) h in omega ints
+-- each of the 48 cells
+pub cell-passes : (s : State) → check s ≡ 0 → (k : ℕ) → k < 48 → cellOk (s .period) k (getD (s .seasonal) k (pos 0)) ≡ true
+cell-passes s ok k l = allBelow-at 48 (λ (j : ℕ). cellOk (s .period) j (getD (s .seasonal) j (pos 0))) (passed s ok .seasonal) k l
 
-pub range-in : (v : ℤ) → Within 1099511627776 v → inRange v ≡ true
-range-in v w =
-    let a : leZ (negsuc 1099511627775) v ≡ true = omega ints in
-    let b : leZ v (pos 1099511627776) ≡ true = omega ints in
+-- ---- the tests as bounds
+within-is : (n : ℕ) (v : ℤ) → within n v ≡ true → Within n v
+within-is n v h =
+    let p = both (leZ (negℤ (pos n)) v) (leZ v (pos n)) h in
+    omega ints
+
+is-within : (n : ℕ) (v : ℤ) → Within n v → within n v ≡ true
+is-within n v w =
+    let a : leZ (negℤ (pos n)) v ≡ true = omega ints in
+    let b : leZ v (pos n) ≡ true = omega ints in
     rw (a, b)
 
+pub in-range : (v : ℤ) → inRange v ≡ true → Within 1099511627776 v
+in-range v h = within-is 1099511627776 v h
+
+pub range-in : (v : ℤ) → Within 1099511627776 v → inRange v ≡ true
+range-in v w = is-within 1099511627776 v w
+
 pub is-reading : (y : ℤ) → isReading y ≡ true → Within 1000000 y
-is-reading y h = let p = both (leZ (negsuc 999999) y) (leZ y (pos 1000000)) h in omega ints
+is-reading y h = within-is 1000000 y h
 
 zero-within : (v : ℤ) → isZero v ≡ true → Within 1099511627776 v
 zero-within v h = rw (zero-is v h) (within-zero 1099511627776)
@@ -101,19 +114,6 @@ index-lt : (t : Bool) (m p : ℕ) → m ≤ 48 → cond t (eqb p 0) (ltb p m) �
 index-lt true m p l h = omega (arith, eqb-true p 0 h)
 index-lt false m p l h = omega (arith, ltb-true p m h)
 
--- what the sums and products of a call rest on
-pub record Bounded (s : State) : Type 0 where
-  pub alpha : s .alpha ≤ 65536
-  pub beta : s .beta ≤ 65536
-  pub gamma : s .gamma ≤ 65536
-  pub phi : s .phi ≤ 65536
-  pub level : Within 1099511627776 (s .level)
-  pub trend : Within 1099511627776 (s .trend)
-  pub cells : (k : ℕ) → k < 48 → Within 1099511627776 (getD (s .seasonal) k (pos 0))
-  pub period : s .period ≤ 48
-  pub index : s .index < 48
-  pub count : s .count ≤ maxCount
-
 pub bounded : (s : State) → check s ≡ 0 → Bounded s
 bounded s h =
     let p = passed s h in
@@ -125,18 +125,13 @@ bounded s h =
       phi = damping-le (eqb (trendOf (s .model)) 0) (eqb (trendOf (s .model)) 1) (s .phi) (p .phi);
       level = in-range (s .level) (p .level);
       trend = either (hasTrend (s .model)) (s .trend) (p .trend);
-      cells = λ k l. either (ltb k (s .period)) (getD (s .seasonal) k (pos 0)) (allBelow-at 48 (λ (j : ℕ). cellOk (s .period) j (getD (s .seasonal) j (pos 0))) (p .seasonal) k l);
+      cells = λ k l. either (ltb k (s .period)) (getD (s .seasonal) k (pos 0)) (cell-passes s h k l);
       period = m;
       index = index-lt (eqb (s .period) 0) (s .period) (s .index) m (p .index);
       count = leb-true (s .count) maxCount (p .count);
     }
 
 -- ---- what a model does not have is 0
-pub record NoTrend (s : State) : Type 0 where
-  pub beta : s .beta ≡ 0
-  pub phi : s .phi ≡ 0
-  pub trend : s .trend ≡ pos 0
-
 pub no-trend : (s : State) → check s ≡ 0 → hasTrend (s .model) ≡ false → NoTrend s
 no-trend s ok h =
     let p = passed s ok in
@@ -146,12 +141,6 @@ no-trend s ok h =
       trend = zero-is (s .trend) (rw h at (p .trend));
     }
 
-pub record NoSeason (s : State) : Type 0 where
-  pub period : s .period ≡ 0
-  pub gamma : s .gamma ≡ 0
-  pub index : s .index ≡ 0
-  pub cells : (k : ℕ) → k < 48 → getD (s .seasonal) k (pos 0) ≡ pos 0
-
 pub no-season : (s : State) → check s ≡ 0 → hasSeason (s .model) ≡ false → NoSeason s
 no-season s ok h =
     let p = passed s ok in
@@ -160,16 +149,19 @@ no-season s ok h =
       period = m;
       gamma = eqb-true (s .gamma) 0 (rw h at (p .gamma));
       index = eqb-true (s .index) 0 (rw (eq-eqb (s .period) 0 m) at (p .index));
-      cells = λ k l. zero-is (getD (s .seasonal) k (pos 0)) (rw (le-ltb k (s .period) (omega arith)) at (allBelow-at 48 (λ (j : ℕ). cellOk (s .period) j (getD (s .seasonal) j (pos 0))) (p .seasonal) k l));
+      cells = λ k l. zero-is (getD (s .seasonal) k (pos 0)) (rw (le-ltb k (s .period) (omega arith)) at (cell-passes s ok k l));
     }
-
--- with a season the index is one of its places
-pub record Seasonal (s : State) : Type 0 where
-  pub least : 2 ≤ s .period
-  pub index : s .index < s .period
 
 pub with-season : (s : State) → check s ≡ 0 → hasSeason (s .model) ≡ true → Seasonal s
 with-season s ok h =
     let p = passed s ok in
     let m : 2 ≤ s .period = leb-true 2 (s .period) (both (leb 2 (s .period)) (leb (s .period) 48) (rw h at (p .period)) .0) in
     record { least = m; index = ltb-true (s .index) (s .period) (rw (ne-eqb (s .period) 0 (omega arith)) at (p .index)) }
+
+pub valid : (s : State) → check s ≡ 0 → Valid s
+valid s ok = record { bounded = bounded s ok; no-trend = no-trend s ok; no-season = no-season s ok; with-season = with-season s ok }
+
+-- ---- what stands in the place of a state after a rejection is refused by its model byte
+pub no-state : check noState ≡ 5
+unfolding check noState
+no-state = refl

@@ -7,7 +7,7 @@ use lib.Signed.{shrZ, _≤ℤ_, _<ℤ_}
 use Rattle.integers.specs.Bounds.{Within}
 use Rattle.integers.proofs.Bounds.{zs, within-mul}
 use Rattle.integers.proofs.Difference.{diff, ints, known, sum, product}
-use Rattle.state.specs.Fixed.{R, roundedNat}
+use Rattle.state.specs.Fixed.{R, share, shareNat}
 
 -- the shift that rounds down
 shr-low : (u : ℤ) → (pos 65536 *ℤ shrZ u 65536) ≤ℤ u
@@ -76,11 +76,26 @@ bounded n v r = rw (known v, known r) (simp zs (omega arith))
 pub R-within : {n : ℕ} {v : ℤ} → Within (65536 * n) v → Within n (R v)
 R-within {n} {v} h = bounded n v (R v) (R-low v) (R-high v) h
 
--- so a gain of at most 65,536 keeps a bound
-pub R-gain : {a n : ℕ} {e : ℤ} → a ≤ 65536 → Within n e → Within n (R (pos a *ℤ e))
-R-gain h w = R-within (within-mul h w)
+-- ---- a share
+pub share-error : (a : ℕ) (e : ℤ) → Within 65536 (pos 2 *ℤ (pos 65536 *ℤ share a e -ℤ pos a *ℤ e))
+unfolding share
+share-error a e = R-error (pos a *ℤ e)
+
+-- of 1 it is the number, of 0 it is 0
+pub share-one : (e : ℤ) → share 65536 e ≡ e
+unfolding share
+share-one e = R-whole e
+
+pub share-none : (e : ℤ) → share 0 e ≡ pos 0
+unfolding share
+share-none e = R-none e
+
+-- a parameter is at most 1, so a bound is kept
+pub share-within : {a n : ℕ} {e : ℤ} → a ≤ 65536 → Within n e → Within n (share a e)
+unfolding share
+share-within h w = R-within (within-mul h w)
 
 -- of a natural number
-pub roundedNat-is : (v : ℕ) → roundedNat v ≡ (v + 32768) / 65536
-unfolding R
-roundedNat-is v = refl
+pub shareNat-is : (a x : ℕ) → shareNat a x ≡ (a * x + 32768) / 65536
+unfolding R share
+shareNat-is a x = refl

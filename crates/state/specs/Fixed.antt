@@ -2,12 +2,16 @@
 use Prim.Native.Nat.{ℕ}
 use mathlib.Core.Bool.{Bool, false, _&&_}
 use lib.Dec.{eqb}
-use lib.IntN.{ℤ, pos, negsuc, natAbs, _+ℤ_}
+use lib.IntN.{ℤ, pos, negsuc, negℤ, natAbs, _+ℤ_, _*ℤ_}
 use lib.Signed.{leZ, shrZ}
+
+-- from −n to n
+abbrev pub within : ℕ → ℤ → Bool
+within n v = leZ (negℤ (pos n)) v && leZ v (pos n)
 
 -- a reading y is a whole number from −1,000,000 to 1,000,000
 abbrev pub isReading : ℤ → Bool
-isReading y = leZ (negsuc 999999) y && leZ y (pos 1000000)
+isReading y = within 1000000 y
 
 -- the paper's mark, −2,147,483,648: the sentinel of a missing reading in a slice
 abbrev pub isSentinel : ℤ → Bool
@@ -16,7 +20,7 @@ isSentinel (negsuc n) = eqb n 2147483647
 
 -- level, trend and season values are from −2^40 to 2^40
 abbrev pub inRange : ℤ → Bool
-inRange v = leZ (negsuc 1099511627775) v && leZ v (pos 1099511627776)
+inRange v = within 1099511627776 v
 
 abbrev pub isZero : ℤ → Bool
 isZero (pos n) = eqb n 0
@@ -30,7 +34,11 @@ maxCount = 281474976710656
 unfoldable pub R : ℤ → ℤ
 R v = shrZ (v +ℤ pos 32768) 65536
 
--- R of a number that is not negative, as a natural number
-abbrev pub roundedNat : ℕ → ℕ
-unfolding R
-roundedNat v = natAbs (R (pos v))
+-- R(a × x), the share that a 65,536th parameter a gives of x: every use of R is one
+unfoldable pub share : ℕ → ℤ → ℤ
+share a x = R (pos a *ℤ x)
+
+-- the share of a number that is not negative, as a natural number
+abbrev pub shareNat : ℕ → ℕ → ℕ
+unfolding R share
+shareNat a x = natAbs (share a (pos x))

@@ -2,3 +2,4 @@ pub mod Rejections
 pub mod Fixed
 pub mod Models
 pub mod States
+pub mod Valid

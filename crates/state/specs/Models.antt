@@ -1,5 +1,5 @@
 -- Document 01, "Grains and states": the model byte, and the season lengths and parameters that a model allows.
-use Prim.Native.Nat.{ℕ, _/_, _%_}
+use Prim.Native.Nat.{ℕ, _+_, _*_, _/_, _%_}
 use mathlib.Core.Bool.{Bool, cond, not, _&&_, _||_}
 use lib.Dec.{eqb, leb}
 
@@ -16,6 +16,10 @@ hasTrend model = not (eqb (trendOf model) 0)
 
 abbrev pub hasSeason : ℕ → Bool
 hasSeason model = not (eqb (seasonOf model) 0)
+
+-- the byte put together from its parts
+abbrev pub modelByte : ℕ → ℕ
+modelByte model = seasonOf model * 4 + trendOf model
 
 -- valid bytes are 0, 1, 2, 4, 5, 6
 abbrev pub validModel : ℕ → Bool

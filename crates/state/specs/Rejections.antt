@@ -1,4 +1,4 @@
--- Document 01, "Refusals, in checking order": each number once, with its sentence. A call answers 0 for "accepted".
+-- Document 01, "Refusals, in checking order": each number once, with its sentence. A code is the number of a refusal, or 0 for "accepted".
 use Prim.Native.Nat.{ℕ}
 use mathlib.Core.Bool.{Bool, cond}
 use lib.Dec.{eqb}
@@ -77,13 +77,17 @@ infixr 3 _then_
 abbrev pub _then_ : ℕ → ℕ → ℕ
 n then k = cond (eqb n 0) k n
 
+-- what a call gives: a where its code is 0, else what the rejection makes
+abbrev pub accepting : {A : Type 0} → ℕ → A → (ℕ → A) → A
+accepting code a r = cond (eqb code 0) a (r code)
+
 -- an answer without a number: accepted where the rejection n is 0
 abbrev pub outcome : ℕ → Outcome
-outcome n = cond (eqb n 0) outcome-of.Accepted (outcome-of.Rejected n)
+outcome n = accepting n outcome-of.Accepted outcome-of.Rejected
 
 -- an answer with a number v: accepted where the rejection n is 0
 abbrev pub answer : ℕ → ℤ → Answer
-answer n v = cond (eqb n 0) (answer-of.Accepted v) (answer-of.Rejected n)
+answer n v = accepting n (answer-of.Accepted v) answer-of.Rejected
 
 -- the paper's number of each case, 0 for "accepted"
 abbrev pub outcomeCode : Outcome → ℕ

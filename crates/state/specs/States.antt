@@ -1,14 +1,52 @@
 -- Document 01, "Grains and states": what a state holds, and the checks 5, 6, 7, 9 and 10 of a state handed in directly.
-use Prim.Native.Nat.{ℕ, zero, suc}
+use Prim.Native.Nat.{ℕ, zero, suc, _-_}
 use mathlib.Core.Bool.{Bool, true, cond, _&&_}
-use mathlib.Core.List.{List}
+use mathlib.Core.List.{List, [], _++_}
 use lib.Dec.{eqb, ltb, leb}
 use lib.IntN.{ℤ, pos}
-use lib.ListN.{getD}
+use lib.ListN.{getD, length, replicate}
 use Rattle.state.specs.Rejections.{unless, _then_, bad-model, bad-period, bad-parameter, bad-value, bad-position}
 use Rattle.state.specs.Fixed.{inRange, isZero, maxCount}
 use Rattle.state.specs.Models.{hasTrend, validModel, periodOk, parametersOk}
 use Rattle.state.specs.declared.State.{State}
+
+-- a state by its numbers: model, m, A, B, G, F, l, b, the first season cells (the others are 0), p, count
+abbrev pub stateOf : ℕ → ℕ → ℕ → ℕ → ℕ → ℕ → ℤ → ℤ → List ℤ → ℕ → ℕ → State
+stateOf model m A B G F l b cells p count =
+    record {
+      model = model;
+      period = m;
+      alpha = A;
+      beta = B;
+      gamma = G;
+      phi = F;
+      level = l;
+      trend = b;
+      seasonal = cells ++ replicate (48 - length cells) (pos 0);
+      index = p;
+      count = count;
+    }
+
+-- the state with other values, place and count; nothing else of a state changes
+abbrev pub moved : State → ℤ → ℤ → List ℤ → ℕ → ℕ → State
+moved s l b cells p count =
+    record {
+      model = s .model;
+      period = s .period;
+      alpha = s .alpha;
+      beta = s .beta;
+      gamma = s .gamma;
+      phi = s .phi;
+      level = l;
+      trend = b;
+      seasonal = cells;
+      index = p;
+      count = count;
+    }
+
+-- no state: what stands in the place of one after a rejection. Its model byte is not valid, so every call rejects it
+unfoldable pub noState : State
+noState = stateOf 255 0 0 0 0 0 (pos 0) (pos 0) [] 0 0
 
 -- b: in range, and 0 without trend
 abbrev pub trendOk : ℕ → ℤ → Bool
@@ -35,11 +73,19 @@ indexOk m p = cond (eqb m 0) (eqb p 0) (ltb p m)
 abbrev pub countOk : ℕ → Bool
 countOk n = leb n maxCount
 
+-- l, b and the season values
+abbrev pub valuesOk : State → Bool
+valuesOk s = inRange (s .level) && trendOk (s .model) (s .trend) && seasonalOk (s .period) (s .seasonal)
+
+-- p and the count
+abbrev pub positionOk : State → Bool
+positionOk s = indexOk (s .period) (s .index) && countOk (s .count)
+
 -- the state's first rejection in the order 5, 6, 7, 9, 10, or 0
 unfoldable pub check : State → ℕ
 check s =
     unless (validModel (s .model)) bad-model
     then unless (periodOk (s .model) (s .period)) bad-period
     then unless (parametersOk (s .model) (s .alpha) (s .beta) (s .gamma) (s .phi)) bad-parameter
-    then unless (inRange (s .level) && trendOk (s .model) (s .trend) && seasonalOk (s .period) (s .seasonal)) bad-value
-    then unless (indexOk (s .period) (s .index) && countOk (s .count)) bad-position
+    then unless (valuesOk s) bad-value
+    then unless (positionOk s) bad-position

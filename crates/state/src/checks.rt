@@ -5,16 +5,21 @@ use super::BAD_PERIOD;
 use super::BAD_POSITION;
 use super::BAD_VALUE;
 use super::MAX_COUNT;
+use super::MAX_PERIOD;
+use super::MAX_VALUE;
+use super::ONE;
 use super::State;
+use super::first;
+use super::models::has_season;
+use super::models::has_trend;
 use super::models::model_ok;
-use super::models::season_of;
 use super::models::trend_of;
+use super::unless;
 ghost use mathlib.Core.Path.{_≡_};
 ghost use mathlib.Core.Bool.{cond};
-ghost use Rattle.state.specs.Rejections.{unless, _then_, bad-model, bad-period, bad-parameter, bad-value, bad-position};
-ghost use Rattle.state.specs.Fixed.{inRange, isZero};
+ghost use Rattle.state.specs.Fixed.{isReading, isSentinel, inRange, isZero};
 ghost use Rattle.state.specs.Models.{periodOk, gainOk, dampingOk, parametersOk};
-ghost use Rattle.state.specs.States.{trendOk, cellOk, seasonalOk, indexOk, countOk, check};
+ghost use Rattle.state.specs.States.{trendOk, cellOk, seasonalOk, valuesOk, indexOk, countOk, positionOk, check};
 
 // One of two, so that the tests below have no branch of their own.
 fn pick(b: bool, x: bool, y: bool) -> bool
@@ -23,10 +28,23 @@ fn pick(b: bool, x: bool, y: bool) -> bool
     if b { x } else { y }
 }
 
+pub fn is_reading(y: i32) -> bool
+    ensures { λ r. ⌜ r ≡ isReading y ⌝ }
+{
+    (-1_000_000 <= y) & (y <= 1_000_000)
+}
+
+// Document 01's mark: a missing reading in a slice.
+pub fn is_sentinel(y: i32) -> bool
+    ensures { λ r. ⌜ r ≡ isSentinel y ⌝ }
+{
+    y == -2_147_483_648
+}
+
 pub fn in_range(v: i64) -> bool
     ensures { λ r. ⌜ r ≡ inRange v ⌝ }
 {
-    (-0x100_0000_0000 <= v) & (v <= 0x100_0000_0000)
+    (-MAX_VALUE <= v) & (v <= MAX_VALUE)
 }
 
 fn is_zero(v: i64) -> bool
@@ -38,13 +56,13 @@ fn is_zero(v: i64) -> bool
 pub fn period_ok(model: u8, m: u8) -> bool
     ensures { λ r. ⌜ r ≡ periodOk model m ⌝ }
 {
-    pick(season_of(model) != 0, (2 <= m) & (m <= 48), m == 0)
+    pick(has_season(model), (2 <= m) & (m <= MAX_PERIOD), m == 0)
 }
 
 fn gain_ok(has: bool, x: u32) -> bool
     ensures { λ r. ⌜ r ≡ gainOk has x ⌝ }
 {
-    pick(has, x <= 65536, x == 0)
+    pick(has, x <= ONE, x == 0)
 }
 
 fn damping_ok(trend: u8, f: u32) -> bool
@@ -53,21 +71,23 @@ fn damping_ok(trend: u8, f: u32) -> bool
     pick(
         trend == 0,
         f == 0,
-        pick(trend == 1, f == 65536, (1 <= f) & (f <= 65535)),
+        pick(trend == 1, f == ONE, (1 <= f) & (f <= 65535)),
     )
 }
 
 pub fn parameters_ok(model: u8, a: u32, b: u32, g: u32, f: u32) -> bool
     ensures { λ r. ⌜ r ≡ parametersOk model a b g f ⌝ }
 {
-    let trend = trend_of(model);
-    (a <= 65536) & gain_ok(trend != 0, b) & gain_ok(season_of(model) != 0, g) & damping_ok(trend, f)
+    (a <= ONE)
+        & gain_ok(has_trend(model), b)
+        & gain_ok(has_season(model), g)
+        & damping_ok(trend_of(model), f)
 }
 
 pub fn trend_ok(model: u8, b: i64) -> bool
     ensures { λ r. ⌜ r ≡ trendOk model b ⌝ }
 {
-    pick(trend_of(model) != 0, in_range(b), is_zero(b))
+    pick(has_trend(model), in_range(b), is_zero(b))
 }
 
 fn cell_ok(m: usize, k: usize, v: i64) -> bool
@@ -99,41 +119,27 @@ pub fn count_ok(n: u64) -> bool
     n <= MAX_COUNT
 }
 
-// The number of the first check that fails, or 0.
-fn first_of(model: bool, period: bool, parameters: bool, values: bool, position: bool) -> u8
-    ensures { λ r. ⌜ r ≡ (unless model bad-model then unless period bad-period then unless parameters bad-parameter then unless values bad-value then unless position bad-position) ⌝ }
+// Checks 9 and 10 as tests.
+fn values_ok(s: State) -> bool
+    ensures { λ r. ⌜ r ≡ valuesOk s ⌝ }
 {
-    if model {
-        if period {
-            if parameters {
-                if values {
-                    if position { 0 } else { BAD_POSITION }
-                } else {
-                    BAD_VALUE
-                }
-            } else {
-                BAD_PARAMETER
-            }
-        } else {
-            BAD_PERIOD
-        }
-    } else {
-        BAD_MODEL
-    }
+    in_range(s.level) & trend_ok(s.model, s.trend) & seasonal_ok(s.period as usize, &s.seasonal)
+}
+
+fn position_ok(s: State) -> bool
+    ensures { λ r. ⌜ r ≡ positionOk s ⌝ }
+{
+    index_ok(s.period, s.index) & count_ok(s.count)
 }
 
 // The rejection of a state handed in, or 0.
 pub fn check(s: State) -> u8
     ensures { λ r. ⌜ r ≡ check s ⌝ }
 {
-    let values = in_range(s.level)
-        & trend_ok(s.model, s.trend)
-        & seasonal_ok(s.period as usize, &s.seasonal);
-    first_of(
-        model_ok(s.model),
-        period_ok(s.model, s.period),
-        parameters_ok(s.model, s.alpha, s.beta, s.gamma, s.phi),
-        values,
-        index_ok(s.period, s.index) & count_ok(s.count),
-    )
+    let parameters = parameters_ok(s.model, s.alpha, s.beta, s.gamma, s.phi);
+    let mut code = unless(model_ok(s.model), BAD_MODEL);
+    code = first(code, unless(period_ok(s.model, s.period), BAD_PERIOD));
+    code = first(code, unless(parameters, BAD_PARAMETER));
+    code = first(code, unless(values_ok(s), BAD_VALUE));
+    first(code, unless(position_ok(s), BAD_POSITION))
 }

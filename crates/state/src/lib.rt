@@ -2,6 +2,10 @@
 pub mod checks;
 pub mod models;
 
+ghost use mathlib.Core.Path.{_≡_};
+ghost use Rattle.state.specs.Rejections.{unless, _then_, outcomeCode};
+ghost use Rattle.state.specs.States.{noState};
+
 // The numbers of document 01's refusals.
 pub const INPUT_TOO_LONG: u8 = 1;
 
@@ -33,6 +37,15 @@ pub const COUNT_FULL: u8 = 14;
 
 pub const LEAVES_RANGE: u8 = 15;
 
+// 1 in the 65,536ths that the parameters are counted in: the greatest of each.
+pub const ONE: u32 = 65536;
+
+// The longest season, and the cells that a state has for it.
+pub const MAX_PERIOD: u8 = 48;
+
+// 2^40: level, trend and season values are at most that, and at least its negative.
+pub const MAX_VALUE: i64 = 0x100_0000_0000;
+
 // 2^48, the most steps that a state counts.
 pub const MAX_COUNT: u64 = 0x1_0000_0000_0000;
 
@@ -54,6 +67,25 @@ pub struct State {
     pub count: u64,
 }
 
+// What stands in the place of a state after a rejection: every call rejects it.
+pub fn no_state() -> State
+    ensures { λ r. ⌜ r ≡ noState ⌝ }
+{
+    State {
+        model: 255,
+        period: 0,
+        alpha: 0,
+        beta: 0,
+        gamma: 0,
+        phi: 0,
+        level: 0,
+        trend: 0,
+        seasonal: [0; 48],
+        index: 0,
+        count: 0,
+    }
+}
+
 // The answer of a call that gives no number.
 pub enum Outcome {
     Accepted,
@@ -64,4 +96,28 @@ pub enum Outcome {
 pub enum Answer {
     Accepted(i64),
     Rejected(u8),
+}
+
+// A check: 0 where the test holds, else its rejection.
+pub fn unless(holds: bool, code: u8) -> u8
+    ensures { λ r. ⌜ r ≡ unless holds code ⌝ }
+{
+    if holds { 0 } else { code }
+}
+
+// Checks one after the other: the first rejection, or what the later ones say.
+pub fn first(n: u8, later: u8) -> u8
+    ensures { λ r. ⌜ r ≡ (n then later) ⌝ }
+{
+    if n == 0 { later } else { n }
+}
+
+// The number of an answer's case, 0 where it is accepted.
+pub fn code_of(done: Outcome) -> u8
+    ensures { λ r. ⌜ r ≡ outcomeCode done ⌝ }
+{
+    match done {
+        Outcome::Accepted => 0,
+        Outcome::Rejected(n) => n,
+    }
 }

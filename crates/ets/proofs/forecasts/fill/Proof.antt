@@ -12,7 +12,7 @@ use mir.ValLaws.{toZ-ofZ}
 use borrow.Author.Needs.{needs}
 use Rattle.integers.proofs.Difference.{back}
 use Rattle.integers.proofs.Bounds.{within-add, within-fits}
-use Rattle.state.proofs.Passing.{Bounded, bounded}
+use Rattle.state.specs.Valid.{Bounded}
 use Rattle.ets.specs.Forecasts.{trendAt, trendLine, seasonAt, forecastOf, forecastList}
 use Rattle.ets.proofs.ForecastLaws.{Turn, turn, trend-bound, line-bound, ahead, ahead-small, season-ahead, list-more}
 use Rattle.ets.proofs.forecasts.fill.Statement.{statement}
@@ -31,29 +31,29 @@ abbrev μ-loop : tie.MeasureT-loop
 μ-loop h values₀ s line₀ d₀ p₀ i₀ values line d p i = h - i
 
 bounded-at : (c : tie.Start Inv-loop μ-loop) → Bounded (c .args .t1)
-bounded-at c = bounded (c .args .t1) (c .pre .0)
+bounded-at c = c .pre .0 .bounded
 
 -- the seasonal index is one of the array's
-place : (c : tie.In-loop Inv-loop μ-loop) → c .before .loop .p < 48
-place c =
+index-in : (c : tie.In-loop Inv-loop μ-loop) → c .before .loop .p < 48
+index-in c =
     let at = c .before in
     let b = bounded-at (at .before .before .before) in
     rw (at .loop .inv .3) (ahead-small _ _ (at .loop .i) (b .period) (b .index))
 
-turn-at : (c : tie.After-gain Inv-loop μ-loop) → let s = c .before .before .before .before .before .args .t1 in Turn (s .level) (s .phi) (s .trend) (c .before .before .loop .i) (toZ w64 (c .before .before .loop .line)) (c .gain .result)
+turn-at : (c : tie.After-share Inv-loop μ-loop) → let s = c .before .before .before .before .before .args .t1 in Turn (s .level) (s .phi) (s .trend) (c .before .before .loop .i) (toZ w64 (c .before .before .loop .line)) (c .share .result)
 turn-at c =
     let at = c .before .before in
     let s = at .before .before .before in
     let b = bounded-at s in
-    turn (s .args .t1 .level) (s .args .t1 .phi) (s .args .t1 .trend) (b .phi) (b .level) (b .trend) (at .loop .i) (omega (arith, s .pre .1)) (toZ w64 (at .loop .d)) (toZ w64 (at .loop .line)) (c .gain .result) (at .loop .inv .1) (at .loop .inv .2) (c .gain .ok) (c .gain .ensures)
+    turn (s .args .t1 .level) (s .args .t1 .phi) (s .args .t1 .trend) (b .phi) (b .level) (b .trend) (at .loop .i) (omega (arith, s .pre .1)) (toZ w64 (at .loop .d)) (toZ w64 (at .loop .line)) (c .share .result) (at .loop .inv .1) (at .loop .inv .2) (c .share .ok) (c .share .ensures)
 
 loop-holds : tie.Need-loop-holds Inv-loop μ-loop
 unfolding trendAt trendLine ahead forecastList
 loop-holds c =
     (search needs, back w64 _ (c .struct-told2 .given .1 .1 .1 .1 .1 .1 .1 .0 .1), back w64 _ (c .struct-told2 .given .1 .1 .1 .1 .1 .1 .0 .1), refl, refl, refl)
 
-gain-requires : tie.Need-gain-requires Inv-loop μ-loop
-gain-requires c κs =
+share-requires : tie.Need-share-requires Inv-loop μ-loop
+share-requires c κs =
     let at = c .before in
     let b = bounded-at (at .before .before .before) in
     (b .phi, rw (at .loop .inv .1) (trend-bound _ _ _ (b .phi) (b .level) (b .trend) (at .loop .i)))
@@ -62,13 +62,13 @@ add-line : tie.Need-add-line Inv-loop μ-loop
 add-line c = turn-at c .fits
 
 cast-k : tie.Need-cast-k Inv-loop μ-loop
-cast-k c = let l = place (c .before) in omega arith
+cast-k c = let l = index-in (c .before) in omega arith
 
 mul-season : tie.Need-mul-season Inv-loop μ-loop
-mul-season c = let l = place (c .before) in omega arith
+mul-season c = let l = index-in (c .before) in omega arith
 
 element-copy-out-season : tie.Need-element-copy-out-season Inv-loop μ-loop
-element-copy-out-season c = place (c .before)
+element-copy-out-season c = index-in (c .before)
 
 -- the sum that is stored is the forecast
 module _ (c : tie.After-season Inv-loop μ-loop) where
@@ -86,17 +86,17 @@ module _ (c : tie.After-season Inv-loop μ-loop) where
   value-fits =
       within-fits w64
       (within-add {m = 1099511627776} (line-bound _ _ _ (bounded-at st .phi) (bounded-at st .level) (bounded-at st .trend) (suc (at .loop .i)) (omega (arith, st .pre .1)))
-      (rw (season-ahead (st .args .t1) (st .pre .0) (at .loop .i), ← (at .loop .inv .3)) (bounded-at st .cells (at .loop .p) (place (c .before .before)))))
+      (rw (season-ahead (st .args .t1) (st .pre .0) (at .loop .i), ← (at .loop .inv .3)) (bounded-at st .cells (at .loop .p) (index-in (c .before .before)))))
       (omega arith)
 
-  value-is : toZ w64 (ofZ w64 (toZ w64 (at .loop .line) +ℤ toZ w64 (ofZ w64 (c .before .gain .result)))) +ℤ toZ w64 (ofZ w64 (getD (st .args .t1 .seasonal) (at .loop .p) (pos 0))) ≡ forecastOf (st .args .t1) (suc (at .loop .i))
+  value-is : toZ w64 (ofZ w64 (toZ w64 (at .loop .line) +ℤ toZ w64 (ofZ w64 (c .before .share .result)))) +ℤ toZ w64 (ofZ w64 (getD (st .args .t1 .seasonal) (at .loop .p) (pos 0))) ≡ forecastOf (st .args .t1) (suc (at .loop .i))
   unfolding forecastOf
   value-is = rw (turn-at (c .before) .line-is, season-is)
 
-  machine-is : toZ w64 (ofZ w64 (toZ w64 (ofZ w64 (toZ w64 (at .loop .line) +ℤ toZ w64 (ofZ w64 (c .before .gain .result)))) +ℤ toZ w64 (ofZ w64 (getD (st .args .t1 .seasonal) (at .loop .p) (pos 0))))) ≡ forecastOf (st .args .t1) (suc (at .loop .i))
+  machine-is : toZ w64 (ofZ w64 (toZ w64 (ofZ w64 (toZ w64 (at .loop .line) +ℤ toZ w64 (ofZ w64 (c .before .share .result)))) +ℤ toZ w64 (ofZ w64 (getD (st .args .t1 .seasonal) (at .loop .p) (pos 0))))) ≡ forecastOf (st .args .t1) (suc (at .loop .i))
   machine-is = rw (value-is) (toZ-ofZ w64 _ value-fits)
 
-  stored-is : set (at .loop .values) (at .loop .i) (toZ w64 (ofZ w64 (toZ w64 (ofZ w64 (toZ w64 (at .loop .line) +ℤ toZ w64 (ofZ w64 (c .before .gain .result)))) +ℤ toZ w64 (ofZ w64 (getD (st .args .t1 .seasonal) (at .loop .p) (pos 0)))))) ≡ forecastList (st .args .t1) (suc (at .loop .i)) ++ drop (suc (at .loop .i)) (st .args .values .now)
+  stored-is : set (at .loop .values) (at .loop .i) (toZ w64 (ofZ w64 (toZ w64 (ofZ w64 (toZ w64 (at .loop .line) +ℤ toZ w64 (ofZ w64 (c .before .share .result)))) +ℤ toZ w64 (ofZ w64 (getD (st .args .t1 .seasonal) (at .loop .p) (pos 0)))))) ≡ forecastList (st .args .t1) (suc (at .loop .i)) ++ drop (suc (at .loop .i)) (st .args .values .now)
   stored-is =
       ap₂ (λ (l : List ℤ) (v : ℤ). set l (at .loop .i) v) (at .loop .inv .5) machine-is
       ∙ list-more (st .args .t1) (at .loop .i) (st .args .values .now) (omega (arith, st .pre .2))
@@ -148,7 +148,7 @@ fill-spec =
     Inv-loop
     μ-loop
     loop-holds
-    gain-requires
+    share-requires
     add-line
     cast-k
     mul-season

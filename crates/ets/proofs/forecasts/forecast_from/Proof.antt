@@ -11,12 +11,10 @@ use borrow.Author.Tests.{eq-eqb, ne-eqb, leb-true}
 use Rattle.integers.specs.Bounds.{Within}
 use Rattle.integers.proofs.Difference.{back}
 use Rattle.integers.proofs.Bounds.{within-add, within-fits}
-use Rattle.state.specs.Rejections.{unless, bad-parameter, bad-value}
 use Rattle.state.specs.Fixed.{inRange}
-use Rattle.state.proofs.Tests.{both, unless-zero, then-zero}
+use Rattle.state.proofs.Tests.{both, unless-zero, unless-then}
 use Rattle.state.proofs.Passing.{in-range}
-use Rattle.ets.specs.Forecasts.{horizonOk, forecastFromCode, forecastFrom}
-use Rattle.ets.proofs.ForecastLaws.{horizon-in}
+use Rattle.ets.specs.Forecasts.{forecastFromCode, forecastFrom}
 use borrow.Author.Needs.{needs}
 use Rattle.ets.proofs.forecasts.forecast_from.Statement.{statement}
 use Rattle.ets.proofs.forecasts.forecast_from.Tie as tie
@@ -37,16 +35,16 @@ record Ready (c : tie.Else1) : Type 0 where
 ready : (c : tie.Else1) → Ready c
 ready c =
     let s = c .before .before .args in
-    let z = then-zero (unless (leb (s .phi) 65536) bad-parameter) _ (code (c .before) ∙ c .if1 .left) in
-    let y = then-zero (unless (inRange (s .level) && inRange (s .trend) && inRange (s .season)) bad-value) _ (z .1) in
-    let v = both (inRange (s .level) && inRange (s .trend)) (inRange (s .season)) (unless-zero _ 8 (y .0)) in
+    let z = unless-then (leb (s .phi) 65536) 6 _ (code (c .before) ∙ c .if1 .left) in
+    let y = unless-then (inRange (s .level) && inRange (s .trend) && inRange (s .season)) 8 _ (z .1) in
+    let v = both (inRange (s .level) && inRange (s .trend)) (inRange (s .season)) (y .0) in
     let u = both (inRange (s .level)) (inRange (s .trend)) (v .0) in
     record {
-      phi = leb-true (s .phi) 65536 (unless-zero _ 6 (z .0));
+      phi = leb-true (s .phi) 65536 (z .0);
       level = in-range (s .level) (u .0);
       trend = in-range (s .trend) (u .1);
       season = in-range (s .season) (v .1);
-      horizon = horizon-in (s .h) (unless-zero (horizonOk (s .h)) 10 (y .1)) .1;
+      horizon = leb-true (s .h) 512 (both (leb 1 (s .h)) (leb (s .h) 512) (unless-zero _ 10 (y .1)) .1);
     }
 
 sum-fits : (c : tie.After-trend-line) → SFits w64 (c .trend-line .result +ℤ c .before .before .before .args .season)

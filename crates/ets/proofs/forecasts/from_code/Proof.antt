@@ -1,17 +1,8 @@
-use mathlib.Core.Path.{_≡_}
-use mathlib.Core.Bool.{_&&_}
 use mir.Facts.{toZ-ofZ}
-use borrow.Author.Tests.{le-leb, lt-leb}
-use Rattle.state.specs.Fixed.{inRange}
+use Rattle.state.proofs.Tests.{then-assoc}
 use borrow.Author.Needs.{needs}
 use Rattle.ets.proofs.forecasts.from_code.Statement.{statement}
 use Rattle.ets.proofs.forecasts.from_code.Tie as tie
-
--- what the three tests told of the numbers themselves
-ranges : (c : tie.After-in-range3) → let s = c .before .before .before .before .args in (inRange (s .level) && inRange (s .trend) && inRange (s .season)) ≡ (c .before .before .in-range .result && c .before .in-range2 .result && c .in-range3 .result)
-ranges c =
-    let s = c .before .before .before .before in
-    rw (c .before .before .in-range .ensures, c .before .in-range2 .ensures, c .in-range3 .ensures, toZ-ofZ (s .fits .level), toZ-ofZ (s .fits .trend), toZ-ofZ (s .fits .season))
 
 in-range-requires : tie.Need-in-range-requires
 in-range-requires c κs = search needs
@@ -22,24 +13,44 @@ in-range-requires-2 c κs = search needs
 in-range-requires-3 : tie.Need-in-range-requires-3
 in-range-requires-3 c κs = search needs
 
+unless-requires : tie.Need-unless-requires
+unless-requires c κs = search needs
+
+unless-requires-2 : tie.Need-unless-requires-2
+unless-requires-2 c κs = search needs
+
+first-requires : tie.Need-first-requires
+first-requires c κs = search needs
+
 horizon-ok-requires : tie.Need-horizon-ok-requires
 horizon-ok-requires c κs = search needs
 
+unless-requires-3 : tie.Need-unless-requires-3
+unless-requires-3 c κs = search needs
+
+first-requires-2 : tie.Need-first-requires-2
+first-requires-2 c κs = search needs
+
 returns : tie.Need-returns
 returns c =
-    let q = c .before .before in
-    rw (le-leb _ _ (q .before .before .before .before .if1 .taken), ranges (q .before), q .if2 .taken, ← (c .before .horizon-ok .ensures), c .if3 .taken)
-
-returns-2 : tie.Need-returns-2
-returns-2 c =
-    let q = c .before .before in
-    rw (le-leb _ _ (q .before .before .before .before .if1 .taken), ranges (q .before), q .if2 .taken, ← (c .before .horizon-ok .ensures), c .if3 .left)
-
-returns-3 : tie.Need-returns-3
-returns-3 c = rw (le-leb _ _ (c .before .before .before .before .if1 .taken), ranges (c .before), c .if2 .left)
-
-returns-4 : tie.Need-returns-4
-returns-4 c = rw (lt-leb _ _ (c .if1 .left))
+    let f = c .before .before .before in
+    let r = f .before .before .before in
+    let s = r .before .before .before in
+    rw (
+      c .first2 .ensures,
+      c .before .unless3 .ensures,
+      c .before .before .horizon-ok .ensures,
+      f .first .ensures,
+      f .before .unless2 .ensures,
+      f .before .before .unless .ensures,
+      r .in-range3 .ensures,
+      r .before .in-range2 .ensures,
+      r .before .before .in-range .ensures,
+      toZ-ofZ (s .fits .level),
+      toZ-ofZ (s .fits .trend),
+      toZ-ofZ (s .fits .season),
+    )
+    (simp then-assoc)
 
 pub from-code-spec : {M : Type 1} → statement M
 from-code-spec =
@@ -48,8 +59,10 @@ from-code-spec =
     in-range-requires
     in-range-requires-2
     in-range-requires-3
+    unless-requires
+    unless-requires-2
+    first-requires
     horizon-ok-requires
-    returns
-    returns-2
-    returns-3
-    returns-4)
+    unless-requires-3
+    first-requires-2
+    returns)

@@ -26,18 +26,18 @@ level-in c = rw (toZ-ofZ (c .fits .level)) (c .pre .1)
 trend-in : (c : tie.Start Inv-loop μ-loop) → Within 1099511627776 (toZ w64 (ofZ w64 (c .args .trend)))
 trend-in c = rw (toZ-ofZ (c .fits .trend)) (c .pre .2)
 
-turn-at : (c : tie.After-gain Inv-loop μ-loop) → let s = c .before .before .before .args in Turn (toZ w64 (ofZ w64 (s .level))) (s .phi) (toZ w64 (ofZ w64 (s .trend))) (c .before .before .loop .j) (toZ w64 (c .before .before .loop .line)) (c .gain .result)
+turn-at : (c : tie.After-share Inv-loop μ-loop) → let s = c .before .before .before .args in Turn (toZ w64 (ofZ w64 (s .level))) (s .phi) (toZ w64 (ofZ w64 (s .trend))) (c .before .before .loop .j) (toZ w64 (c .before .before .loop .line)) (c .share .result)
 turn-at c =
     let at = c .before .before in
     let s = at .before in
-    turn _ (s .args .phi) _ (s .pre .0) (level-in s) (trend-in s) (at .loop .j) (omega (arith, s .pre .3)) (toZ w64 (at .loop .d)) (toZ w64 (at .loop .line)) (c .gain .result) (at .loop .inv .1) (at .loop .inv .2) (c .gain .ok) (c .gain .ensures)
+    turn _ (s .args .phi) _ (s .pre .0) (level-in s) (trend-in s) (at .loop .j) (omega (arith, s .pre .3)) (toZ w64 (at .loop .d)) (toZ w64 (at .loop .line)) (c .share .result) (at .loop .inv .1) (at .loop .inv .2) (c .share .ok) (c .share .ensures)
 
 loop-holds : tie.Need-loop-holds Inv-loop μ-loop
 unfolding trendAt trendLine
 loop-holds c = (search needs, refl, refl)
 
-gain-requires : tie.Need-gain-requires Inv-loop μ-loop
-gain-requires c κs =
+share-requires : tie.Need-share-requires Inv-loop μ-loop
+share-requires c κs =
     let at = c .before in
     let s = at .before in
     (s .pre .0, rw (at .loop .inv .1) (trend-bound _ _ _ (s .pre .0) (level-in s) (trend-in s) (at .loop .j)))
@@ -64,4 +64,4 @@ returns c =
 pub trend-line-spec : {M : Type 1} → statement M
 trend-line-spec =
     tie.close
-    (tie.spec Inv-loop μ-loop loop-holds gain-requires add-line add-j loop-less loop-again returns)
+    (tie.spec Inv-loop μ-loop loop-holds share-requires add-line add-j loop-less loop-again returns)

@@ -3,8 +3,8 @@ use borrow.Author.Needs.{needs}
 use Rattle.state.proofs.checks.trend_ok.Statement.{statement}
 use Rattle.state.proofs.checks.trend_ok.Tie as tie
 
-trend-of-requires : tie.Need-trend-of-requires
-trend-of-requires c κs = search needs
+has-trend-requires : tie.Need-has-trend-requires
+has-trend-requires c κs = search needs
 
 in-range-requires : tie.Need-in-range-requires
 in-range-requires c κs = search needs
@@ -16,9 +16,9 @@ pick-requires : tie.Need-pick-requires
 pick-requires c κs = search needs
 
 returns : tie.Need-returns
-returns c =
-    rw (c .pick .ensures, c .before .is-zero .ensures, c .before .before .in-range .ensures, c .before .before .before .trend-of .ensures, toZ-ofZ (c .before .before .before .before .fits .b))
+returns c = rw (c .pick .ensures, c .before .is-zero .ensures, c .before .before .in-range .ensures, c .before .before .before .has-trend .ensures, toZ-ofZ (c .before .before .before .before .fits .b))
 
 pub trend-ok-spec : {M : Type 1} → statement M
 trend-ok-spec =
-    tie.close (tie.spec trend-of-requires in-range-requires is-zero-requires pick-requires returns)
+    tie.close
+    (tie.spec has-trend-requires in-range-requires is-zero-requires pick-requires returns)

@@ -1,3 +1,4 @@
+use native.Mathlib.Omega.{arith}
 use Rattle.state.proofs.Tests.{model-law}
 use borrow.Author.Needs.{needs}
 use Rattle.state.proofs.models.model_ok.Statement.{statement}
@@ -7,7 +8,7 @@ trend-of-requires : tie.Need-trend-of-requires
 trend-of-requires c κs = search needs
 
 returns : tie.Need-returns
-returns c = rw (c .trend-of .ensures) (model-law (c .before .args .model))
+returns c = rw (c .trend-of .ensures) (model-law (c .before .args .model) (search needs))
 
 pub model-ok-spec : {M : Type 1} → statement M
 model-ok-spec = tie.close (tie.spec trend-of-requires returns)

@@ -7,19 +7,19 @@ use mir.ValLaws.{toZ-ofZ}
 use Rattle.integers.specs.Bounds.{Within}
 use Rattle.integers.proofs.Difference.{back}
 use Rattle.integers.proofs.Bounds.{within-mul, within-fits, within-le}
-use Rattle.state.specs.Fixed.{R}
+use Rattle.state.specs.Fixed.{R, share}
 use borrow.Author.Needs.{needs}
-use Rattle.ets.proofs.arithmetic.gain.Statement.{statement}
-use Rattle.ets.proofs.arithmetic.gain.Tie as tie
-
-cast-round : tie.Need-cast-round
-cast-round c = search needs
+use Rattle.ets.proofs.arithmetic.share.Statement.{statement}
+use Rattle.ets.proofs.arithmetic.share.Tie as tie
 
 product : (c : tie.Start) → Within 576460752303423488 (pos (c .args .a) *ℤ c .args .x)
 product c = within-mul (c .pre .0) (c .pre .1)
 
 product-fits : (c : tie.Start) → SFits w64 (pos (c .args .a) *ℤ c .args .x)
 product-fits c = within-fits w64 (product c) (omega arith)
+
+cast-round : tie.Need-cast-round
+cast-round c = search needs
 
 mul-round : tie.Need-mul-round
 mul-round c = simp (toZ-ofZ w64 (pos (c .args .a)) (search needs), toZ-ofZ, c .fits .x) (product-fits c)
@@ -29,9 +29,10 @@ round-requires c κs =
     simp (toZ-ofZ w64 (pos (c .args .a)) (search needs), toZ-ofZ, c .fits .x, product-fits c) (within-le 4611686018427387904 (omega arith) (product c))
 
 returns : tie.Need-returns
+unfolding share
 returns c =
     let s = c .before in
     back w64 (c .round .result) (c .round .ok) ∙ c .round .ensures ∙ ap R (simp (toZ-ofZ w64 (pos (s .args .a)) (search needs), toZ-ofZ, s .fits .x, product-fits s))
 
-pub gain-spec : {M : Type 1} → statement M
-gain-spec = tie.close (tie.spec cast-round mul-round round-requires returns)
+pub share-spec : {M : Type 1} → statement M
+share-spec = tie.close (tie.spec cast-round mul-round round-requires returns)

@@ -1,0 +1,29 @@
+use mir.Syntax.{w64}
+use Rattle.integers.proofs.Difference.{back}
+use borrow.Author.Needs.{needs}
+use Rattle.state.proofs.checks.values_ok.Statement.{statement}
+use Rattle.state.proofs.checks.values_ok.Tie as tie
+
+in-range-requires : tie.Need-in-range-requires
+in-range-requires c κs = search needs
+
+trend-ok-requires : tie.Need-trend-ok-requires
+trend-ok-requires c κs = search needs
+
+cast-seasonal-ok : tie.Need-cast-seasonal-ok
+cast-seasonal-ok c = search needs
+
+seasonal-ok-requires : tie.Need-seasonal-ok-requires
+seasonal-ok-requires c κs = search needs
+
+returns : tie.Need-returns
+returns c =
+    let t = c .before .before .before in
+    let s = t .before .before .before .before .args .t1 in
+    let u = t .before .before .before .struct-told .given in
+    rw (c .seasonal-ok .ensures, t .trend-ok .ensures, t .before .before .in-range .ensures, back w64 (s .level) (u .1 .1 .1 .1 .1 .1 .0 .1), back w64 (s .trend) (u .1 .1 .1 .1 .1 .1 .1 .0 .1))
+
+pub values-ok-spec : {M : Type 1} → statement M
+values-ok-spec =
+    tie.close
+    (tie.spec in-range-requires trend-ok-requires cast-seasonal-ok seasonal-ok-requires returns)
