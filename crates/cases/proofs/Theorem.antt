@@ -1,15 +1,19 @@
 -- T1 to T12: each row of the table holds, since both sides compute to the same.
 use mathlib.Core.Path.{refl}
-use Rattle.state.specs.Fixed.{R}
+use Rattle.state.specs.Fixed.{R, share}
 use Rattle.state.specs.States.{allBelow, check}
-use Rattle.ets.specs.Steps.{dampedTrend, seasonDue, residualOf, newLevel, newTrend, newSeason, newSeasonal, nextIndex, missingCode, stepCode, step, missing}
-use Rattle.ets.specs.Forecasts.{trendAt, trendLine, seasonAt, forecastOf, forecastCode, forecast}
+use Rattle.ets.specs.Steps.{dampedTrend, seasonDue, residual, newLevel, newTrend, newSeason, newSeasonal, nextIndex, missingCode, stepCode, step, missing}
+use Rattle.ets.specs.Forecasts.{trendAt, trendLine, seasonAt, forecastOf, forecastCodeTo, forecastTo}
 use Rattle.weights.specs.Weights.{dampingSum, trendTerm, seasonTerm, coefficient, squares, weightOf, weight, variance}
-use Rattle.cases.specs.Cases.{Every, none, _and_, table}
+use Rattle.cases.specs.Cases.{Every, table}
 
-pub station-cases : Every table
-unfolding R allBelow check dampedTrend seasonDue residualOf newLevel newTrend newSeason newSeasonal nextIndex missingCode stepCode step missing trendAt trendLine seasonAt forecastOf forecastCode forecast dampingSum trendTerm seasonTerm coefficient squares weightOf weight variance table
-station-cases =
+infixr 4 _and_
+_and_ : {A B : Type 0} → A → B → A × B
+a and b = (a, b)
+
+pub all-rows : Every table
+unfolding Every R share allBelow check dampedTrend seasonDue residual newLevel newTrend newSeason newSeasonal nextIndex missingCode stepCode step missing trendAt trendLine seasonAt forecastOf forecastCodeTo forecastTo dampingSum trendTerm seasonTerm coefficient squares weightOf weight variance table
+all-rows =
     -- T1
     refl and refl and refl and refl
     -- T2
@@ -34,4 +38,4 @@ station-cases =
     and refl and refl and refl and refl and refl
     -- T12
     and refl
-    and none
+    and tt

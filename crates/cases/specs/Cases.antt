@@ -1,11 +1,10 @@
--- Document 01, "Station cases": T1 to T12 as one table. Proved by `proofs/Theorem.antt`.
-use Prim.Native.Nat.{ℕ, _+_, _-_, _^_}
+-- Document 01, "Station cases": T1 to T12 as one table. The function `cases::station_cases` promises it.
+use Prim.Native.Nat.{ℕ, _+_, _^_}
 use mathlib.Core.Path.{_≡_}
-use mathlib.Core.List.{List, [], _∷_, _++_}
+use mathlib.Core.List.{List, [], _∷_}
 use lib.IntN.{ℤ, pos, negℤ}
-use lib.ListN.{length, replicate}
 use Rattle.state.specs.Fixed.{R}
-use Rattle.state.specs.States.{check}
+use Rattle.state.specs.States.{stateOf, check}
 use Rattle.state.specs.declared.State.{State}
 use Rattle.state.specs.declared.Answer.the-variants as answer-of
 use Rattle.ets.specs.Steps.{stepCode, step, missing}
@@ -19,30 +18,12 @@ pub data Row : Type 1 where
   row : {A : Type 0} → ℕ → A → A → Row
 
 -- every row of a table holds
-infixr 4 _and_
-pub data Every : List Row → Type 1 where
-  none : Every []
-  _and_ : {A : Type 0} {n : ℕ} {given said : A} {rows : List Row} → given ≡ said → Every rows → Every (row n given said ∷ rows)
+unfoldable pub Every : List Row → Type 0
+Every [] = Unit
+Every (row n given said ∷ rows) = (given ≡ said) × Every rows
 
 abbrev pub minus : ℕ → ℤ
 minus n = negℤ (pos n)
-
--- model, m, A, B, G, F, l, b, the first season cells (the others are 0), p, count
-abbrev pub stateOf : ℕ → ℕ → ℕ → ℕ → ℕ → ℕ → ℤ → ℤ → List ℤ → ℕ → ℕ → State
-stateOf model m A B G F l b cells p count =
-    record {
-      model = model;
-      period = m;
-      alpha = A;
-      beta = B;
-      gamma = G;
-      phi = F;
-      level = l;
-      trend = b;
-      seasonal = cells ++ replicate (48 - length cells) (pos 0);
-      index = p;
-      count = count;
-    }
 
 -- the state after a reading
 abbrev pub after : State → ℤ → State

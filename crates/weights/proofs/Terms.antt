@@ -6,11 +6,10 @@ use native.Mathlib.Omega.{arith}
 use native.Mathlib.Nat.{mul-le-mul, mod-lt, mod-zero, mod-self, mod-eq-of-lt, suc-mod}
 use lib.Dec.{eqb}
 use borrow.Author.Tests.{eqb-true, eqb-false}
-use Rattle.state.specs.Fixed.{roundedNat}
-use Rattle.state.specs.Models.{trendOf, hasSeason, gainOk}
-use Rattle.state.specs.States.{check}
+use Rattle.state.specs.Fixed.{shareNat}
+use Rattle.state.specs.Models.{trendOf, hasSeason}
+use Rattle.state.specs.Valid.{Valid}
 use Rattle.state.specs.declared.State.{State}
-use Rattle.state.proofs.Passing.{passed}
 use Rattle.weights.specs.Weights.{dampingSum, trendTerm, seasonTerm, coefficient, squares, weightOf}
 
 -- a product of two bounded numbers
@@ -18,7 +17,7 @@ pub product-le : (m n : ℕ) {a b : ℕ} → a ≤ m → b ≤ n → a * b ≤ m
 product-le m n h k = mul-le-mul h k
 
 -- the next P
-pub damping-next : (F n : ℕ) {j p q : ℕ} → suc n ≡ j → p ≡ dampingSum F n → q ≡ roundedNat (F * (p + 65536)) → q ≡ dampingSum F j
+pub damping-next : (F n : ℕ) {j p q : ℕ} → suc n ≡ j → p ≡ dampingSum F n → q ≡ shareNat F (p + 65536) → q ≡ dampingSum F j
 unfolding dampingSum
 damping-next F n j p q = rw (← j, ← p) q
 
@@ -39,23 +38,22 @@ remainder-next m n j k r = rw (← j, r, k) (go (eqb (n % m + 1) m) refl)
     go false e = less m (eqb-false _ _ e)
 
 -- without season G is 0, so the remainder alone decides
-left-out : (t u : Bool) (g : ℕ) → gainOk t g ≡ true → cond u g 0 ≡ cond (t && u) g 0
-left-out true u g h = refl
-left-out false true g h = eqb-true g 0 h
-left-out false false g h = refl
+left-out : (s : State) → Valid s → (t u : Bool) → hasSeason (s .model) ≡ t → cond u (s .gamma) 0 ≡ cond (t && u) (s .gamma) 0
+left-out s v true u h = refl
+left-out s v false true h = v .no-season h .gamma
+left-out s v false false h = refl
 
 -- a coefficient from the trend t, P and the remainder k of j
 pub coefficient-is : (s : State) (j : ℕ) {t p k x y : ℕ}
-    → check s ≡ 0
+    → Valid s
     → t ≡ trendOf (s .model)
     → p ≡ dampingSum (s .phi) j
     → k ≡ j % s .period
-    → x ≡ cond (eqb t 0) 0 (cond (eqb t 1) (s .beta * j) (roundedNat (s .beta * p)))
+    → x ≡ cond (eqb t 0) 0 (cond (eqb t 1) (s .beta * j) (shareNat (s .beta) p))
     → y ≡ cond (eqb k 0) (s .gamma) 0
     → s .alpha + x + y ≡ coefficient s j
 unfolding coefficient trendTerm seasonTerm
-coefficient-is s j h t p k x y =
-    rw (x, y, t, p, k, left-out (hasSeason (s .model)) (eqb (j % s .period) 0) (s .gamma) (passed s h .gamma))
+coefficient-is s j v t p k x y = rw (x, y, t, p, k, left-out s v (hasSeason (s .model)) (eqb (j % s .period) 0) refl)
 
 -- the weight has one square more
 pub weight-next : (s : State) (n : ℕ) {j : ℕ} → suc n ≡ j → weightOf s (j + 1) ≡ weightOf s j + coefficient s j * coefficient s j

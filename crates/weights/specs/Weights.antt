@@ -2,7 +2,8 @@
 use Prim.Native.Nat.{ℕ, zero, suc, _+_, _-_, _*_, _/_, _%_}
 use mathlib.Core.Bool.{cond, _&&_}
 use lib.Dec.{eqb}
-use Rattle.state.specs.Fixed.{roundedNat}
+use Rattle.state.specs.Fixed.{shareNat}
+use Rattle.state.specs.Rejections.{accepting}
 use Rattle.state.specs.Models.{trendOf, hasSeason}
 use Rattle.state.specs.declared.State.{State}
 use Rattle.ets.specs.Forecasts.{forecastCode}
@@ -14,13 +15,13 @@ use Rattle.weights.specs.declared.Variance.the-variants as variance-of
 -- P is 0 before j = 1 and at each j becomes R(F × (P + 65536))
 unfoldable pub dampingSum : ℕ → ℕ → ℕ
 dampingSum F zero = 0
-dampingSum F (suc j) = roundedNat (F * (dampingSum F j + 65536))
+dampingSum F (suc j) = shareNat F (dampingSum F j + 65536)
 
 -- the trend term: 0 without trend, B × j when straight, R(B × P) when damped
 unfoldable pub trendTerm : State → ℕ → ℕ
 trendTerm s j =
     cond (eqb (trendOf (s .model)) 0) 0
-    (cond (eqb (trendOf (s .model)) 1) (s .beta * j) (roundedNat (s .beta * dampingSum (s .phi) j)))
+    (cond (eqb (trendOf (s .model)) 1) (s .beta * j) (shareNat (s .beta) (dampingSum (s .phi) j)))
 
 -- G where m divides j; without season G is left out
 unfoldable pub seasonTerm : State → ℕ → ℕ
@@ -39,13 +40,30 @@ squares s (suc n) = squares s n + coefficient s (suc n) * coefficient s (suc n)
 unfoldable pub weightOf : State → ℕ → ℕ
 weightOf s h = 4294967296 + squares s (h - 1)
 
--- each case of the answers by the paper's number, 0 for "accepted", and its values; the variance as a high and a low 64-bit word
+-- each case of the answers from the paper's number, 0 for "accepted", and its values; the variance as a high and a low 64-bit word
 abbrev pub weightAnswer : ℕ → ℕ → Weight
-weightAnswer n w = cond (eqb n 0) (weight-of.Accepted w) (weight-of.Rejected n)
+weightAnswer n w = accepting n (weight-of.Accepted w) weight-of.Rejected
 
 abbrev pub varianceAnswer : ℕ → ℕ → Variance
 varianceAnswer n v =
-    cond (eqb n 0) (variance-of.Accepted (v / 18446744073709551616) (v % 18446744073709551616)) (variance-of.Rejected n)
+    accepting n (variance-of.Accepted (v / 18446744073709551616) (v % 18446744073709551616)) variance-of.Rejected
+
+-- and back: the number of each case, and the values of an accepted one
+abbrev pub weightCode : Weight → ℕ
+weightCode (weight-of.Accepted w) = 0
+weightCode (weight-of.Rejected n) = n
+
+abbrev pub weightValue : Weight → ℕ → ℕ
+weightValue (weight-of.Accepted w) old = w
+weightValue (weight-of.Rejected n) old = old
+
+abbrev pub varianceCode : Variance → ℕ
+varianceCode (variance-of.Accepted high low) = 0
+varianceCode (variance-of.Rejected n) = n
+
+abbrev pub varianceValue : Variance → ℕ
+varianceValue (variance-of.Accepted high low) = high * 18446744073709551616 + low
+varianceValue (variance-of.Rejected n) = 0
 
 -- the calls, rejected as a forecast is: by the state's checks, then 11
 unfoldable pub weight : State → ℕ → Weight

@@ -6,29 +6,22 @@ ghost use Prim.Native.Nat.{_+_, _*_, _/_, _%_, _≤_};
 ghost use mathlib.Core.Path.{_≡_};
 ghost use mathlib.Core.Bool.{cond};
 ghost use lib.Dec.{eqb};
-ghost use Rattle.state.specs.Fixed.{roundedNat};
-ghost use Rattle.ets.specs.Forecasts.{forecastCode};
+ghost use Rattle.state.specs.Fixed.{shareNat};
+ghost use Rattle.state.specs.Valid.{Valid};
 ghost use Rattle.weights.specs.Weights.{weightOf};
 
-// R of a number that is not negative.
-fn rounded(v: u64) -> u64
-    requires { ⌜ v ≤ 4398046511104 ⌝ }
-    ensures { λ r. ⌜ r ≡ roundedNat v ⌝ }
+// R(a × x) of a number that is not negative.
+fn share(a: u32, x: u64) -> u64
+    requires { ⌜ (a ≤ 65536) × (x ≤ 33619968) ⌝ }
+    ensures value { λ r. ⌜ r ≡ shareNat a x ⌝ }
+    ensures bound { λ r. ⌜ r ≤ x ⌝ }
 {
-    (v + 32768) >> 16
-}
-
-// The P after p.
-fn damping_sum(f: u32, p: u64) -> u64
-    requires { ⌜ (f ≤ 65536) × (p ≤ 33554432) ⌝ }
-    ensures { λ r. ⌜ (r ≡ roundedNat (f * (p + 65536))) × (r ≤ p + 65536) ⌝ }
-{
-    rounded((f as u64) * (p + 65536))
+    ((a as u64) * x + 32768) >> 16
 }
 
 fn trend_term(trend: u8, b: u32, j: u32, p: u64) -> u64
     requires { ⌜ (b ≤ 65536) × (j ≤ 512) × (p ≤ 33554432) ⌝ }
-    ensures { λ r. ⌜ (r ≡ cond (eqb trend 0) 0 (cond (eqb trend 1) (b * j) (roundedNat (b * p)))) × (r ≤ 33554432) ⌝ }
+    ensures { λ r. ⌜ (r ≡ cond (eqb trend 0) 0 (cond (eqb trend 1) (b * j) (shareNat b p))) × (r ≤ 33554432) ⌝ }
 {
     if trend == 0 {
         return 0;
@@ -36,7 +29,7 @@ fn trend_term(trend: u8, b: u32, j: u32, p: u64) -> u64
     if trend == 1 {
         return (b as u64) * (j as u64);
     }
-    rounded((b as u64) * p)
+    share(b, p)
 }
 
 // The remainder by m of j, from that of j − 1: no division in each turn.
@@ -57,7 +50,7 @@ fn season_term(g: u32, remainder: u32) -> u64
 
 // The weight of a horizon that is not rejected.
 pub fn weight_of(s: State, h: u32) -> u64
-    requires { ⌜ forecastCode s h ≡ 0 ⌝ }
+    requires { ⌜ Valid s × (1 ≤ h) × (h ≤ 512) ⌝ }
     ensures { λ r. ⌜ r ≡ weightOf s h ⌝ }
 {
     let trend = trend_of(s.model);
@@ -65,7 +58,7 @@ pub fn weight_of(s: State, h: u32) -> u64
     let mut p: u64 = 0;
     let mut k: u32 = 0;
     for j in 1..h {
-        p = damping_sum(s.phi, p);
+        p = share(s.phi, p + 65536);
         k = next_remainder(k, s.period);
         let c = (s.alpha as u64) + trend_term(trend, s.beta, j, p) + season_term(s.gamma, k);
         sum = sum + c * c;

@@ -2,16 +2,13 @@ use Prim.Native.Nat.{_*_, _≤_}
 use mathlib.Core.Path.{refl}
 use native.Mathlib.Omega.{arith}
 use borrow.Author.Tests.{ne-eqb}
-use Rattle.state.proofs.Rounding.{roundedNat-is}
 use Rattle.weights.proofs.Terms.{product-le}
+use borrow.Author.Needs.{needs}
 use Rattle.weights.proofs.sums.trend_term.Statement.{statement}
 use Rattle.weights.proofs.sums.trend_term.Tie as tie
 
 straight : (c : tie.Start) → c .args .b * c .args .j ≤ 33554432
 straight c = product-le 65536 512 (c .pre .0) (c .pre .1)
-
-damped : (c : tie.Start) → c .args .b * c .args .p ≤ 65536 * 33554432
-damped c = product-le 65536 33554432 (c .pre .0) (c .pre .2)
 
 returns : tie.Need-returns
 returns c = rw (c .if1 .taken) (omega arith)
@@ -22,17 +19,11 @@ mul-result c = omega (arith, straight (c .before .before))
 returns-2 : tie.Need-returns-2
 returns-2 c = rw (ne-eqb _ 0 (c .before .if1 .left), c .if2 .taken) (refl, straight (c .before .before))
 
-mul-rounded : tie.Need-mul-rounded
-mul-rounded c = omega (arith, damped (c .before .before))
-
-rounded-requires : tie.Need-rounded-requires
-rounded-requires c κs = omega (arith, damped (c .before .before))
+share-requires : tie.Need-share-requires
+share-requires c κs = search needs
 
 returns-3 : tie.Need-returns-3
-returns-3 c =
-    let s = c .before .before .before in
-    rw (ne-eqb _ 0 (c .before .before .if1 .left), ne-eqb _ 1 (c .before .if2 .left)) (c .rounded .ensures, omega (arith, c .rounded .ensures, roundedNat-is (s .args .b * s .args .p), damped s))
+returns-3 c = rw (ne-eqb _ 0 (c .before .before .if1 .left), ne-eqb _ 1 (c .before .if2 .left)) (c .share .ensures .0, omega (arith, c .share .ensures .1))
 
 pub trend-term-spec : {M : Type 1} → statement M
-trend-term-spec =
-    tie.close (tie.spec returns mul-result returns-2 mul-rounded rounded-requires returns-3)
+trend-term-spec = tie.close (tie.spec returns mul-result returns-2 share-requires returns-3)

@@ -4,11 +4,9 @@ use mathlib.Core.Path.{_≡_, ap}
 use native.Mathlib.Omega.{arith}
 use native.Mathlib.Nat.{zero-mod}
 use borrow.Author.Needs.{needs}
-use Rattle.state.specs.States.{check}
+use Rattle.state.specs.Valid.{Valid, Bounded}
 use Rattle.state.specs.declared.State.{State}
-use Rattle.state.proofs.Passing.{Bounded, bounded}
 use Rattle.weights.specs.Weights.{dampingSum, coefficient, squares, weightOf}
-use Rattle.ets.proofs.ForecastLaws.{forecast-ready}
 use Rattle.weights.proofs.Terms.{product-le, damping-next, remainder-next, coefficient-is, weight-next}
 use Rattle.weights.proofs.sums.weight_of.Statement.{statement}
 use Rattle.weights.proofs.sums.weight_of.Tie as tie
@@ -29,9 +27,6 @@ abbrev μ-loop : tie.MeasureT-loop
 μ-loop s h trend sum₀ p₀ k₀ j₀ sum p k j = h - j
 
 -- the facts of one turn, in the order of its calls
-allowed : (c : tie.Start Inv-loop μ-loop) → (check (c .args .s) ≡ 0) × (1 ≤ c .args .h) × (c .args .h ≤ 512)
-allowed c = forecast-ready (c .args .s) (c .args .h) (c .pre)
-
 module _ (c : tie.In-loop Inv-loop μ-loop) where
   abbrev s : State
   s = c .before .before .before .args .s
@@ -42,16 +37,16 @@ module _ (c : tie.In-loop Inv-loop μ-loop) where
   one-more : suc (j - 1) ≡ j
   one-more = omega arith
 
-  checked : check s ≡ 0
-  checked = allowed (c .before .before .before) .0
+  facts : Valid s
+  facts = c .before .before .before .pre .0
 
   bounds : Bounded s
-  bounds = bounded s checked
+  bounds = facts .bounded
 
-p-is : (c : tie.After-damping-sum Inv-loop μ-loop) → c .damping-sum .result ≡ dampingSum (s (c .before) .phi) (j (c .before))
+p-is : (c : tie.After-share Inv-loop μ-loop) → c .share .result ≡ dampingSum (s (c .before) .phi) (j (c .before))
 p-is c =
     let at = c .before in
-    damping-next (s at .phi) (j at - 1) (one-more at) (at .before .loop .inv .6) (c .damping-sum .ensures .0)
+    damping-next (s at .phi) (j at - 1) (one-more at) (at .before .loop .inv .6) (c .share .ensures .0)
 
 k-is : (c : tie.After-next-remainder Inv-loop μ-loop) → c .next-remainder .result ≡ j (c .before .before) % s (c .before .before) .period
 k-is c =
@@ -74,17 +69,20 @@ module _ (c : tie.After-season-term Inv-loop μ-loop) where
   coef-is : coef ≡ coefficient (s at) (j at)
   coef-is =
       let turn = c .before .before .before in
-      coefficient-is (s at) (j at) (checked at) (at .before .before .trend-of .ensures) (p-is (turn .before)) (k-is turn) (c .before .trend-term .ensures .0) (c .season-term .ensures .0)
+      coefficient-is (s at) (j at) (facts at) (at .before .before .trend-of .ensures) (p-is (turn .before)) (k-is turn) (c .before .trend-term .ensures .0) (c .season-term .ensures .0)
 
 trend-of-requires : tie.Need-trend-of-requires Inv-loop μ-loop
 trend-of-requires c κs = search needs
 
 loop-holds : tie.Need-loop-holds Inv-loop μ-loop
 unfolding dampingSum squares weightOf
-loop-holds c = let a = allowed (c .before) in search (needs, zero-mod)
+loop-holds c = search (needs, zero-mod)
 
-damping-sum-requires : tie.Need-damping-sum-requires Inv-loop μ-loop
-damping-sum-requires c κs = let b = bounds c in omega arith
+add-share : tie.Need-add-share Inv-loop μ-loop
+add-share c = omega arith
+
+share-requires : tie.Need-share-requires Inv-loop μ-loop
+share-requires c κs = let b = bounds c in omega arith
 
 next-remainder-requires : tie.Need-next-remainder-requires Inv-loop μ-loop
 next-remainder-requires c κs = omega arith
@@ -144,7 +142,8 @@ weight-of-spec =
     μ-loop
     trend-of-requires
     loop-holds
-    damping-sum-requires
+    add-share
+    share-requires
     next-remainder-requires
     cast-c
     trend-term-requires

@@ -1,6 +1,8 @@
 use mathlib.Core.Path.{sym, _∙_}
 use borrow.Author.Needs.{needs}
 use borrow.Author.Tests.{ne-eqb}
+use Rattle.state.proofs.Passing.{valid}
+use Rattle.ets.proofs.ForecastLaws.{forecast-ready}
 use Rattle.weights.specs.Weights.{weight}
 use Rattle.weights.proofs.variances.weight.Statement.{statement}
 use Rattle.weights.proofs.variances.weight.Tie as tie
@@ -9,7 +11,10 @@ forecast-code-requires : tie.Need-forecast-code-requires
 forecast-code-requires c κs = search needs
 
 weight-of-requires : tie.Need-weight-of-requires
-weight-of-requires c κs = sym (c .before .forecast-code .ensures) ∙ c .if1 .taken
+weight-of-requires c κs =
+    let s = c .before .before .args in
+    let r = forecast-ready 512 (s .s) (s .h) (sym (c .before .forecast-code .ensures) ∙ c .if1 .taken) in
+    (valid _ (r .valid), r .least, r .most)
 
 returns : tie.Need-returns
 unfolding weight
