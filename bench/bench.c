@@ -3,6 +3,7 @@
  * bench count ROW WHO N      N calls of one row by one of them, and nothing else: for an instruction counter
  * bench function ROW WHO     the name of the C function that this calls
  * bench rows, bench builds   the names of the rows, of the builds */
+#include "bench_calls.h"
 #include "calls.h"
 #include "forecaster.h"
 #include "reference.h"
@@ -11,24 +12,8 @@
 #include <string.h>
 #include <time.h>
 
-/* the entry points of crates/bench_calls */
-size_t bench_batch(const uint8_t *snapshot, size_t n, const int32_t *readings, size_t count, int64_t *levels, size_t room);
-uint8_t bench_forecasts(const uint8_t *snapshot, size_t n, uint32_t horizon, int64_t *values, size_t room);
-uint64_t bench_weight(const uint8_t *snapshot, size_t n, uint32_t horizon);
-
-static uint8_t our_weight(const uint8_t *group, size_t length, uint32_t horizon, uint64_t *weight) {
-    *weight = bench_weight(group, length, horizon);
-    return 0;
-}
-
-static uint8_t our_batch(const uint8_t *group, size_t length, const int32_t *readings, size_t n, int64_t *levels, size_t room,
-                         size_t *taken) {
-    *taken = bench_batch(group, length, readings, n, levels, room);
-    return 0;
-}
-
 static const struct calls proved = {"proved", forecaster_step, forecaster_missing, forecaster_forecast, bench_forecasts,
-                                    our_weight, our_batch};
+                                    bench_weight, bench_batch};
 
 /* BUILDS is BUILD(gcc_O2) BUILD(gcc_O3) .., as bench/run has it */
 #define BUILD(name) extern const struct calls name##_calls;
@@ -68,6 +53,7 @@ static const struct row rows[] = {
     {"step-refused-13 6-48", STEP, 6, 48, 0, 13},
     {"step-refused-3 6-48", STEP, 6, 48, 0, 3},
     {"forecast-refused-11 6-24", FORECAST, 6, 24, 513, 11},
+    {"batch-refused-3 6-48", BATCH, 6, 48, 0, 3},
 };
 enum { ROWS = sizeof rows / sizeof *rows };
 
@@ -152,7 +138,7 @@ static void compare(const struct row *r) {
 
 static void times(const struct row *r, double *least) {
     static struct answer a;
-    unsigned calls = r->call == BATCH ? 4 : r->horizon == 512 ? 50 : 1000;
+    unsigned calls = r->refused ? 1000 : r->call == BATCH ? 4 : r->horizon == 512 ? 50 : 1000;
     for (int v = 0; v < VERSIONS; v++)
         least[v] = 1e300;
     for (int round = 0; round < ROUNDS; round++)

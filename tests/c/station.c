@@ -1,6 +1,7 @@
-/* The station's calls, tried from C beside reference.c: every call on every refusal that can reach it, on random groups
+/* The station's calls and the benchmark's, tried from C beside reference.c: every call on every refusal that can reach it, on random groups
  * whole and damaged, and for long runs on one group. Guard bytes stand before each buffer and an unmapped page after it. */
 #define _DEFAULT_SOURCE
+#include "bench_calls.h"
 #include "forecaster.h"
 #include "reference.h"
 
@@ -28,11 +29,13 @@ static void expect(int holds, const char *text) {
 }
 
 /* ---- the calls, and the refusals that each can give and has given */
-enum call { STEP, MISSING, FORECAST, CALLS };
-static const char *const names[CALLS] = {"step", "missing", "forecast"};
+enum call { STEP, MISSING, FORECAST, BATCH, FORECASTS, WEIGHT, CALLS };
+static const char *const names[CALLS] = {"step", "missing", "forecast", "batch", "forecasts", "weight"};
 #define BIT(code) (1u << (code))
 #define OF_A_GROUP (BIT(11) - BIT(2)) /* 2 to 10 */
-static const unsigned refusals[CALLS] = {OF_A_GROUP | BIT(13) | BIT(14) | BIT(15), OF_A_GROUP | BIT(14), OF_A_GROUP | BIT(11)};
+#define OF_A_READING (BIT(13) | BIT(14) | BIT(15))
+static const unsigned refusals[CALLS] = {OF_A_GROUP | OF_A_READING,           OF_A_GROUP | BIT(14),           OF_A_GROUP | BIT(11),
+                                         OF_A_GROUP | BIT(12) | OF_A_READING, OF_A_GROUP | BIT(11) | BIT(12), OF_A_GROUP | BIT(11)};
 static unsigned long given[CALLS][256];
 
 static int answered(enum call call, uint8_t got, uint8_t code) {
@@ -89,7 +92,8 @@ static void expect_bytes(const void *lent, const void *bytes, size_t length) {
     expect(length == 0 || memcmp(at, bytes, length) == 0, "a buffer holds other bytes than expected");
 }
 
-static struct pages groups;
+enum { MOST_CELLS = 600 };
+static struct pages groups, number_cells, reading_cells;
 
 /* the number's cell between two guards */
 struct cell {
@@ -137,6 +141,51 @@ static int try_forecast(const uint8_t *bytes, size_t length, uint32_t horizon) {
     return got;
 }
 
+/* cells that nobody has written */
+static int64_t *untouched(int64_t *cells, size_t room) {
+    for (size_t i = 0; i < room; i++)
+        cells[i] = UNTOUCHED + (int64_t)i;
+    return lend(number_cells, cells, room * sizeof *cells);
+}
+
+static int try_batch(const uint8_t *bytes, size_t length, const int32_t *readings, size_t n, size_t room) {
+    int64_t expected[MOST_CELLS];
+    const uint8_t *at = lend(groups, bytes, length);
+    const int32_t *read = lend(reading_cells, readings, n * sizeof *readings);
+    int64_t *cells = untouched(expected, room);
+    size_t taken, got_taken[3] = {77, 77, 77};
+    uint8_t code = ref_batch(bytes, length, readings, n, expected, room, &taken);
+    int got = answered(BATCH, bench_batch(at, length, read, n, cells, room, &got_taken[1]), code);
+    expect_bytes(at, bytes, length);
+    expect_bytes(read, readings, n * sizeof *readings);
+    expect_bytes(cells, expected, room * sizeof *expected);
+    expect(got_taken[0] == 77 && got_taken[2] == 77, "a byte beside the readings taken was written");
+    expect(got_taken[1] == taken, "the readings taken are not those expected");
+    return got;
+}
+
+static int try_forecasts(const uint8_t *bytes, size_t length, uint32_t horizon, size_t room) {
+    int64_t expected[MOST_CELLS];
+    const uint8_t *at = lend(groups, bytes, length);
+    int64_t *cells = untouched(expected, room);
+    uint8_t code = ref_forecasts(bytes, length, horizon, expected, room);
+    int got = answered(FORECASTS, bench_forecasts(at, length, horizon, cells, room), code);
+    expect_bytes(at, bytes, length);
+    expect_bytes(cells, expected, room * sizeof *expected);
+    return got;
+}
+
+static int try_weight(const uint8_t *bytes, size_t length, uint32_t horizon) {
+    const uint8_t *at = lend(groups, bytes, length);
+    uint64_t w = UNTOUCHED, got_w[3] = {UNTOUCHED, UNTOUCHED, UNTOUCHED};
+    uint8_t code = ref_weight(bytes, length, horizon, &w);
+    int got = answered(WEIGHT, bench_weight(at, length, horizon, &got_w[1]), code);
+    expect_bytes(at, bytes, length);
+    expect(got_w[0] == UNTOUCHED && got_w[2] == UNTOUCHED, "a byte beside the weight was written");
+    expect(got_w[1] == w, "the weight is not the one expected");
+    return got;
+}
+
 /* all calls on bytes that each must refuse by the same number, and leave as they are */
 static void all_refuse(const uint8_t *bytes, size_t length, int code) {
     uint8_t copy[MOST];
@@ -145,6 +194,10 @@ static void all_refuse(const uint8_t *bytes, size_t length, int code) {
     expect(try_missing(copy, length) == code, "a missing reading was not refused by this number");
     expect(try_forecast(copy, length, 1) == code, "a forecast was not refused by this number");
     expect(memcmp(copy, bytes, length) == 0, "a refused call wrote into the group");
+    const int32_t readings[] = {5, 6};
+    expect(try_batch(bytes, length, readings, 2, 2) == code, "a batch was not refused by this number");
+    expect(try_forecasts(bytes, length, 2, 2) == code, "a call for all horizons was not refused by this number");
+    expect(try_weight(bytes, length, 1) == code, "a weight was not refused by this number");
 }
 
 /* ---- groups */
@@ -193,6 +246,8 @@ static void listed_cases(void) {
     st = plain(1, 0), st.A = 32768, st.B = 16384, st.b = 65536;
     n = ref_group(&st, bytes);
     at = lend(groups, bytes, n);
+    uint64_t weight = 0;
+    expect(bench_weight(at, n, 3, &weight) == 0 && weight == UINT64_C(11005853696), "T7: the weight of 3");
     expect(forecaster_step(at, n, 3, &number) == 0, "the step");
     st.l = 131072, st.b = 98304, st.count = 1;
     expect_state(at, st);
@@ -209,6 +264,7 @@ static void listed_cases(void) {
     st = plain(4, 2), st.G = 32768, st.s[0] = 65536, st.s[1] = -65536;
     n = ref_group(&st, bytes);
     at = lend(groups, bytes, n);
+    expect(bench_weight(at, n, 3, &weight) == 0 && weight == UINT64_C(6979321856), "T8: the weight of 3");
     expect(forecaster_step(at, n, 5, &number) == 0, "the step");
     st.l = 65536, st.s[0] = 196608, st.p = 1, st.count = 1;
     expect_state(at, st);
@@ -218,7 +274,7 @@ static void listed_cases(void) {
     expect(forecaster_missing(at, n) == 0, "the missing reading");
     st.p = 0, st.count = 2;
     expect_state(at, st);
-    calls += 10;
+    calls += 12;
 }
 
 /* ---- refusals 2, 3 and 4 at every place of every kind of group */
@@ -389,10 +445,40 @@ static void operands(void) {
         n = ref_group(&st, bytes);
         expect(try_forecast(bytes, n, horizons[i]) == (i < 2 ? 0 : FORECASTER_BAD_HORIZON), "a horizon at the edge");
     }
+    what = "all horizons";
+    for (uint32_t h = 0; h <= 514; h++)
+        for (uint32_t less = 0; less <= 2; less++) {
+            size_t room = h + 1 > less ? h + 1 - less : 0;
+            int code = h == 0 || h > 512 ? FORECASTER_BAD_HORIZON : room < h ? 12 : 0;
+            st = plain(6, 3);
+            n = ref_group(&st, bytes);
+            expect(try_forecasts(bytes, n, h, room) == code, "horizon and room");
+            expect(try_weight(bytes, n, h) == (code == 12 ? 0 : code), "a weight's horizon");
+        }
+    what = "a batch";
+    const int32_t mark = INT32_MIN;
+    const int32_t batch[] = {5, mark, -7, 1000000, 1000001, 3, mark};
+    for (size_t m = 0; m < 7; m++)
+        for (size_t room = 0; room < 9; room++) {
+            st = plain(6, 3);
+            n = ref_group(&st, bytes);
+            expect(try_batch(bytes, n, batch, m, room) == (room < m ? 12 : m > 4 ? FORECASTER_BAD_READING : 0), "readings and room");
+        }
+    st = plain(5, 2), st.count = full;
+    n = ref_group(&st, bytes);
+    expect(try_batch(bytes, n, batch, 0, 0) == 0, "a batch of no readings was refused");
+    expect(try_batch(bytes, n, batch, 1, 1) == FORECASTER_COUNT_FULL, "a reading was taken");
+    expect(try_batch(bytes, n, batch + 1, 1, 1) == FORECASTER_COUNT_FULL, "a missing reading was taken");
+    expect(try_batch(bytes, n, batch + 4, 1, 1) == FORECASTER_BAD_READING, "13 comes before 14");
+    st.count = full - 2;
+    n = ref_group(&st, bytes);
+    expect(try_batch(bytes, n, batch, 2, 2) == 0, "the last readings were refused");
+    expect(try_batch(bytes, n, batch, 3, 3) == FORECASTER_COUNT_FULL, "one reading too many was taken");
     what = "T12";
     st = plain(1, 0), st.A = 0, st.B = 0, st.l = range, st.b = range;
     n = ref_group(&st, bytes);
     expect(try_step(bytes, n, 1000000) == FORECASTER_LEAVES_RANGE, "a level left its range");
+    expect(try_batch(bytes, n, batch + 3, 1, 1) == FORECASTER_LEAVES_RANGE, "a level left its range");
     what = "a new trend or season value";
     st = plain(1, 0), st.A = 0, st.B = 65536, st.l = -range;
     n = ref_group(&st, bytes);
@@ -459,6 +545,17 @@ static void damaged_groups(int rounds) {
                     bytes[n++] = (uint8_t)random64();
             }
         try_forecast(bytes, n, (uint32_t)pick(0, 600));
+        if (i % 4 == 0) {
+            int32_t readings[40];
+            size_t many = (size_t)pick(0, 40), room = pick(0, 9) == 0 ? (size_t)pick(0, 40) : many + (size_t)pick(0, 3);
+            int32_t limit = pick(0, 1) ? 1000000 : 30;
+            for (size_t k = 0; k < many; k++)
+                readings[k] = (int32_t)(pick(0, 19) == 0 ? INT32_MIN : pick(0, 99) == 0 ? pick(INT32_MIN, INT32_MAX) : pick(-limit, limit));
+            try_batch(bytes, n, readings, many, room);
+            uint32_t horizon = (uint32_t)(pick(0, 9) == 0 ? pick(0, 600) : pick(1, 60));
+            try_forecasts(bytes, n, horizon, pick(0, 9) == 0 ? (size_t)pick(0, 600) : horizon);
+            try_weight(bytes, n, (uint32_t)pick(0, 600));
+        }
         switch (pick(0, 1)) {
         case 0:
             try_step(bytes, n, (int32_t)(pick(0, 9) == 0 ? pick(INT32_MIN, INT32_MAX) : pick(-1000000, 1000000)));
@@ -501,6 +598,8 @@ static void long_run(int model, int m, int steps) {
 
 int main(void) {
     groups = map_pages(MOST);
+    number_cells = map_pages(MOST_CELLS * sizeof(int64_t));
+    reading_cells = map_pages(MOST_CELLS * sizeof(int32_t));
     listed_cases();
     cuts_and_commands();
     operands();
