@@ -1,85 +1,114 @@
-/* bench time           ns per call of each row, the proved library beside the plain C version, best of many rounds
- * bench count ROW WHO N   N calls of one row by one version, and nothing else: for an instruction counter
- * bench rows           the rows' names */
-#include "baseline.h"
+/* bench time                 each row's name and ns a call: the proved library, then each build of the reference; the least
+ *                            of many rounds, in each of which all of them take their turn
+ * bench count ROW WHO N      N calls of one row by one of them, and nothing else: for an instruction counter
+ * bench function ROW WHO     the name of the C function that this calls
+ * bench rows, bench builds   the names of the rows, of the builds */
+#include "bench_calls.h"
+#include "calls.h"
 #include "forecaster.h"
-#include <inttypes.h>
+#include "reference.h"
 #include <stdio.h>
 #include <stdlib.h>
 #include <string.h>
 #include <time.h>
 
-/* the entry points of crates/bench_calls */
-size_t bench_batch(const uint8_t *snapshot, size_t n, const int32_t *readings, size_t count, int64_t *levels, size_t room);
-uint8_t bench_forecasts(const uint8_t *snapshot, size_t n, uint32_t horizon, int64_t *values, size_t room);
-uint64_t bench_weight(const uint8_t *snapshot, size_t n, uint32_t horizon);
+static const struct calls proved = {"proved", forecaster_step, forecaster_missing, forecaster_forecast, bench_forecasts,
+                                    bench_weight, bench_batch};
 
-enum { READINGS = 4096 };
+/* BUILDS is BUILD(gcc_O2) BUILD(gcc_O3) .., as bench/run has it */
+#define BUILD(name) extern const struct calls name##_calls;
+BUILDS
+#undef BUILD
+#define BUILD(name) &name##_calls,
+static const struct calls *const versions[] = {&proved, BUILDS};
+enum { VERSIONS = sizeof versions / sizeof *versions, READINGS = 4096, ROUNDS = 400 };
 
-typedef struct {
-    uint8_t bytes[526];
-    size_t size;
-} group;
+enum call { STEP, MISSING, FORECAST, FORECASTS, WEIGHT, BATCH };
+static const char *const ours[] = {"forecaster_step", "forecaster_missing", "forecaster_forecast",
+                                   "bench_forecasts", "bench_weight",       "bench_batch"};
+static const char *const theirs[] = {"step", "missing", "forecast", "forecasts", "weight", "batch"};
 
-static void put(uint8_t *p, uint64_t v, int k) {
-    for (int i = 0; i < k; i++) p[i] = (uint8_t)(v >> (8 * i));
-}
+struct row {
+    const char *name;
+    enum call call;
+    int model, m;
+    uint32_t horizon;
+    int refused; /* by which number, 0 where the call is accepted */
+};
 
-static group make(int model, int m) {
-    group g = {.size = (size_t)(46 + 10 * m)};
-    uint8_t *d = g.bytes;
-    int trend = model & 3;
-    d[0] = 0x10; d[1] = (uint8_t)model; d[2] = (uint8_t)m;
-    put(d + 3, 9830, 4);
-    put(d + 7, trend ? 1638 : 0, 4);
-    put(d + 11, m ? 6553 : 0, 4);
-    put(d + 15, trend == 0 ? 0 : trend == 1 ? 65536 : 62259, 4);
-    d[19] = 0x11;
-    put(d + 20, UINT64_C(1376256), 8);
-    put(d + 28, trend ? 6553 : 0, 8);
-    for (int k = 0; k < m; k++) {
-        uint8_t *q = d + 36 + 10 * k;
-        q[0] = 0x12; q[1] = (uint8_t)k;
-        put(q + 2, (uint64_t)((int64_t)(k % 7 - 3) * 65536), 8);
-    }
-    uint8_t *q = d + 36 + 10 * m;
-    q[0] = 0x13;
+#define EACH(name, call, h)                                                                           \
+    {name " 0", call, 0, 0, h, 0}, {name " 2", call, 2, 0, h, 0}, {name " 4-24", call, 4, 24, h, 0}, \
+    {name " 4-48", call, 4, 48, h, 0}, {name " 6-24", call, 6, 24, h, 0}, {name " 6-48", call, 6, 48, h, 0}
+
+static const struct row rows[] = {
+    EACH("step", STEP, 0),
+    EACH("missing", MISSING, 0),
+    EACH("forecast-1", FORECAST, 1),
+    EACH("forecast-512", FORECAST, 512),
+    EACH("all-512", FORECASTS, 512),
+    EACH("weight-512", WEIGHT, 512),
+    EACH("batch", BATCH, 0),
+    {"step-refused-5 0", STEP, 0, 0, 0, 5},
+    {"step-refused-13 0", STEP, 0, 0, 0, 13},
+    {"step-refused-13 6-48", STEP, 6, 48, 0, 13},
+    {"step-refused-3 6-48", STEP, 6, 48, 0, 3},
+    {"forecast-refused-11 6-24", FORECAST, 6, 24, 513, 11},
+    {"batch-refused-3 6-48", BATCH, 6, 48, 0, 3},
+};
+enum { ROWS = sizeof rows / sizeof *rows };
+
+struct lent {
+    uint8_t bytes[REF_GROUP_MOST + 1];
+    size_t length;
+};
+
+static int32_t readings[READINGS];
+
+static struct lent make(const struct row *r) {
+    int trend = r->model & 3;
+    struct ref_state st = {.model = r->model, .m = r->m, .A = 9830, .B = trend ? 1638 : 0, .G = r->m ? 6553 : 0,
+                           .F = trend == 0 ? 0 : trend == 1 ? 65536 : 62259, .l = 1376256, .b = trend ? 6553 : 0};
+    for (int k = 0; k < r->m; k++)
+        st.s[k] = (k % 7 - 3) * 65536;
+    struct lent g = {{0}, 0};
+    g.length = ref_group(&st, g.bytes);
+    if (r->refused == 5)
+        g.bytes[1] = 3;
+    if (r->refused == 3)
+        g.length++;
     return g;
 }
 
-static int32_t readings[READINGS];
-static int64_t cells[READINGS];
-static volatile uint64_t sink;
-
-typedef struct {
-    const char *name;
-    int call, model, m;
-    uint32_t h;
-} row;
-
-enum { STEP, MISSING, FORECAST, FORECASTS, WEIGHT, BATCH };
-
-static const row rows[] = {
-    {"step-m0", STEP, 2, 0, 0},          {"step-m24", STEP, 6, 24, 0},        {"step-m48", STEP, 6, 48, 0},
-    {"missing-m0", MISSING, 2, 0, 0},    {"missing-m24", MISSING, 6, 24, 0},  {"missing-m48", MISSING, 6, 48, 0},
-    {"forecast-1", FORECAST, 6, 24, 1},  {"forecast-512", FORECAST, 6, 24, 512},
-    {"all-512", FORECASTS, 6, 24, 512},  {"weight-512", WEIGHT, 6, 24, 512},
-    {"batch-m0", BATCH, 2, 0, 0},        {"batch-m48", BATCH, 6, 48, 0},
+/* what a call answered and wrote */
+struct answer {
+    uint8_t code;
+    int64_t number;
+    uint64_t weight;
+    size_t taken;
+    int64_t cells[READINGS];
 };
-enum { ROWS = sizeof rows / sizeof rows[0] };
 
-/* one call of a row; `ours` is the proved library */
-static void call(const row *r, group *g, int ours, unsigned i) {
-    int64_t v = 0;
+static inline void call(const struct row *r, const struct calls *who, struct lent *g, unsigned i, struct answer *a) {
     switch (r->call) {
-    case STEP: sink += ours ? forecaster_step(g->bytes, g->size, readings[i % READINGS], &v) : base_step(g->bytes, g->size, readings[i % READINGS], &v); break;
-    case MISSING: sink += ours ? forecaster_missing(g->bytes, g->size) : base_missing(g->bytes, g->size); break;
-    case FORECAST: sink += ours ? forecaster_forecast(g->bytes, g->size, r->h, &v) : base_forecast(g->bytes, g->size, r->h, &v); break;
-    case FORECASTS: sink += ours ? bench_forecasts(g->bytes, g->size, r->h, cells, READINGS) : base_forecasts(g->bytes, g->size, r->h, cells, READINGS); break;
-    case WEIGHT: sink += ours ? bench_weight(g->bytes, g->size, r->h) : base_weight(g->bytes, g->size, r->h); break;
-    case BATCH: sink += ours ? bench_batch(g->bytes, g->size, readings, READINGS, cells, READINGS) : base_batch(g->bytes, g->size, readings, READINGS, cells, READINGS); break;
+    case STEP:
+        a->code = who->step(g->bytes, g->length, r->refused == 13 ? 1000001 : readings[i % READINGS], &a->number);
+        break;
+    case MISSING:
+        a->code = who->missing(g->bytes, g->length);
+        break;
+    case FORECAST:
+        a->code = who->forecast(g->bytes, g->length, r->horizon, &a->number);
+        break;
+    case FORECASTS:
+        a->code = who->forecasts(g->bytes, g->length, r->horizon, a->cells, READINGS);
+        break;
+    case WEIGHT:
+        a->code = who->weight(g->bytes, g->length, r->horizon, &a->weight);
+        break;
+    case BATCH:
+        a->code = who->batch(g->bytes, g->length, readings, READINGS, a->cells, READINGS, &a->taken);
+        break;
     }
-    sink += (uint64_t)v;
 }
 
 static double now(void) {
@@ -88,37 +117,56 @@ static double now(void) {
     return (double)t.tv_sec * 1e9 + (double)t.tv_nsec;
 }
 
-static double best(const row *r, int ours) {
-    unsigned calls = r->call == BATCH ? 20 : r->call >= FORECAST && r->h > 1 ? 400 : 4000;
-    double least = 1e300;
-    for (int round = 0; round < 60; round++) {
-        group g = make(r->model, r->m);
-        double from = now();
-        for (unsigned i = 0; i < calls; i++) call(r, &g, ours, i);
-        double took = (now() - from) / calls;
-        if (took < least) least = took;
+/* all must answer and write the same before a figure counts */
+static void compare(const struct row *r) {
+    static struct answer first, other;
+    int many = r->call < FORECASTS ? 5000 : 3;
+    for (int v = 1; v < VERSIONS; v++) {
+        struct lent a = make(r), b = a;
+        memset(&first, 0, sizeof first);
+        memset(&other, 0, sizeof other);
+        for (int i = 0; i < many; i++) {
+            call(r, &proved, &a, (unsigned)i, &first);
+            call(r, versions[v], &b, (unsigned)i, &other);
+            if (memcmp(&first, &other, sizeof first) || memcmp(&a, &b, sizeof a) || first.code != r->refused) {
+                fprintf(stderr, "%s: %s differs from the proved library at call %d\n", r->name, versions[v]->name, i);
+                exit(1);
+            }
+        }
     }
-    return least;
 }
 
-/* both versions must do the same before a figure counts */
-static void compare(const row *r) {
-    group a = make(r->model, r->m), b = a;
-    for (unsigned i = 0; i < 5000; i++) {
-        static int64_t mine[READINGS], theirs[READINGS];
-        sink = 0;
-        call(r, &a, 1, i);
-        uint64_t x = sink;
-        memcpy(mine, cells, sizeof mine);
-        sink = 0;
-        call(r, &b, 0, i);
-        memcpy(theirs, cells, sizeof theirs);
-        if (x != sink || a.size != b.size || memcmp(a.bytes, b.bytes, a.size) || memcmp(mine, theirs, sizeof mine)) {
-            fprintf(stderr, "%s: the two versions differ at call %u\n", r->name, i);
-            exit(1);
+static void times(const struct row *r, double *least) {
+    static struct answer a;
+    unsigned calls = r->refused ? 1000 : r->call == BATCH ? 4 : r->horizon == 512 ? 50 : 1000;
+    for (int v = 0; v < VERSIONS; v++)
+        least[v] = 1e300;
+    for (int round = 0; round < ROUNDS; round++)
+        for (int v = 0; v < VERSIONS; v++) {
+            struct lent g = make(r);
+            double from = now();
+            for (unsigned i = 0; i < calls; i++)
+                call(r, versions[v], &g, i, &a);
+            double took = (now() - from) / calls;
+            if (took < least[v])
+                least[v] = took;
         }
-        if (r->call >= FORECASTS && i == 3) break;
-    }
+}
+
+static const struct row *row_named(const char *name) {
+    for (int i = 0; i < ROWS; i++)
+        if (!strcmp(name, rows[i].name))
+            return &rows[i];
+    fprintf(stderr, "no row %s\n", name);
+    exit(2);
+}
+
+static const struct calls *build_named(const char *name) {
+    for (int v = 0; v < VERSIONS; v++)
+        if (!strcmp(name, versions[v]->name))
+            return versions[v];
+    fprintf(stderr, "no build %s\n", name);
+    exit(2);
 }
 
 int main(int argc, char **argv) {
@@ -128,26 +176,47 @@ int main(int argc, char **argv) {
         readings[i] = 15 + (int32_t)(x >> 28);
     }
     if (argc == 2 && !strcmp(argv[1], "rows")) {
-        for (int i = 0; i < ROWS; i++) puts(rows[i].name);
+        for (int i = 0; i < ROWS; i++)
+            puts(rows[i].name);
+        return 0;
+    }
+    if (argc == 2 && !strcmp(argv[1], "builds")) {
+        for (int v = 0; v < VERSIONS; v++)
+            puts(versions[v]->name);
+        return 0;
+    }
+    if (argc == 4 && !strcmp(argv[1], "function")) {
+        const struct row *r = row_named(argv[2]);
+        const struct calls *who = build_named(argv[3]);
+        if (who == &proved)
+            puts(ours[r->call]);
+        else
+            printf("%s_%s\n", who->name, theirs[r->call]);
         return 0;
     }
     if (argc == 5 && !strcmp(argv[1], "count")) {
-        for (int i = 0; i < ROWS; i++)
-            if (!strcmp(argv[2], rows[i].name)) {
-                group g = make(rows[i].model, rows[i].m);
-                unsigned n = (unsigned)atoi(argv[4]);
-                for (unsigned k = 0; k < n; k++) call(&rows[i], &g, !strcmp(argv[3], "ours"), k);
-                return 0;
-            }
+        static struct answer a;
+        const struct row *r = row_named(argv[2]);
+        const struct calls *who = build_named(argv[3]);
+        struct lent g = make(r);
+        for (unsigned i = 0, n = (unsigned)atoi(argv[4]); i < n; i++)
+            call(r, who, &g, i, &a);
+        return 0;
     }
     if (argc == 2 && !strcmp(argv[1], "time")) {
-        for (int i = 0; i < ROWS; i++) {
+        for (int i = 0; i < ROWS; i++)
             compare(&rows[i]);
-            double c = best(&rows[i], 0), p = best(&rows[i], 1);
-            printf("%s %.1f %.1f\n", rows[i].name, p, c);
+        for (int i = 0; i < ROWS; i++) {
+            double least[VERSIONS];
+            times(&rows[i], least);
+            printf("%s", rows[i].name);
+            for (int v = 0; v < VERSIONS; v++)
+                printf(" %.1f", least[v]);
+            puts("");
+            fflush(stdout);
         }
         return 0;
     }
-    fputs("usage: bench time | bench rows | bench count ROW ours|theirs N\n", stderr);
+    fputs("usage: bench time | rows | builds | function ROW WHO | count ROW WHO N\n", stderr);
     return 2;
 }

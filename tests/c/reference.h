@@ -1,32 +1,47 @@
-/* Document 01 in plain C, written without a look at the Rattle code: a group read command by command, one step, a
- * missing reading, a forecast, and the group written again. The station's calls are compared with it. */
+/* Document 01 in C, written from that paper and not from the proved code: the station's calls, and those for a batch, all
+ * horizons and the weight, on a slice that holds one group. The group is checked where it lies and only what a call moves
+ * is written. The tests compare the proved calls with these, and the benchmark measures both.
+ *
+ * Each call returns 0 or the number of the first refusal in checking order: 2 to 10 of the group, 3 for any byte after it,
+ * then the call's own. A refused call writes nothing, but for a batch: see there. */
 #ifndef REFERENCE_H
 #define REFERENCE_H
 
 #include <stddef.h>
 #include <stdint.h>
 
+enum { REF_MOST_SEASON = 48, REF_MOST_HORIZON = 512, REF_GROUP_MOST = 46 + 10 * REF_MOST_SEASON };
+
+/* The numbers of a state, in document 01's letters. */
 struct ref_state {
-    int trend;  /* bits 0 and 1 of the model byte */
-    int season; /* bit 2 */
-    int m, p;
-    int64_t A, B, G, F;
-    int64_t l, b, s[48];
+    int model, m;
+    uint32_t A, B, G, F;
+    int64_t l, b, s[REF_MOST_SEASON];
+    int p;
     uint64_t count;
 };
 
-/* The greatest whole number not above (v + 32768) / 65536. */
-int64_t ref_round(int64_t v);
+/* Writes the group of any numbers, with season values for places 0 to m - 1; how many bytes. Nothing is checked. */
+size_t ref_group(const struct ref_state *numbers, uint8_t *bytes);
 
-/* A group and nothing after it: 0 and the state, or the refusal. */
-int ref_open(const uint8_t *bytes, size_t length, struct ref_state *out);
+/* A reading: e into *residual. 13, 14, 15. */
+uint8_t ref_step(uint8_t *group, size_t length, int32_t reading, int64_t *residual);
 
-/* Writes the group of a state; how many bytes. */
-size_t ref_group(const struct ref_state *st, uint8_t *bytes);
+/* A missing reading. 14. */
+uint8_t ref_missing(uint8_t *group, size_t length);
 
-/* One step, a missing reading, a forecast: 0, or the refusal with nothing changed. */
-int ref_step(struct ref_state *st, int64_t reading, int64_t *e);
-int ref_missing(struct ref_state *st);
-int ref_forecast(const struct ref_state *st, uint32_t horizon, int64_t *value);
+/* The forecast for one horizon into *value. 11. */
+uint8_t ref_forecast(const uint8_t *group, size_t length, uint32_t horizon, int64_t *value);
+
+/* The forecasts for 1 to the horizon into the first cells. 11, 12. */
+uint8_t ref_forecasts(const uint8_t *group, size_t length, uint32_t horizon, int64_t *values, size_t room);
+
+/* The weight of a horizon into *weight. 11. */
+uint8_t ref_weight(const uint8_t *group, size_t length, uint32_t horizon, uint64_t *weight);
+
+/* A batch from the group's state, which stays as it is: cell k gets the level after reading k. 12, then each reading's
+ * 13, 14, 15, at the first of which it halts. *taken gets the readings taken, 0 where it was refused before the first. */
+uint8_t ref_batch(const uint8_t *group, size_t length, const int32_t *readings, size_t n, int64_t *levels, size_t room,
+                  size_t *taken);
 
 #endif

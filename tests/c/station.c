@@ -1,6 +1,7 @@
-/* The station's calls, tried from C: every call, every refusal that can reach it, guard bytes before each buffer and
- * an unmapped page after it, and long runs on one group beside the plain recursion of reference.c. */
+/* The station's calls and the benchmark's, tried from C beside reference.c: every call on every refusal that can reach it, on random groups
+ * whole and damaged, and for long runs on one group. Guard bytes stand before each buffer and an unmapped page after it. */
 #define _DEFAULT_SOURCE
+#include "bench_calls.h"
 #include "forecaster.h"
 #include "reference.h"
 
@@ -27,32 +28,72 @@ static void expect(int holds, const char *text) {
         exit(1);
 }
 
-/* ---- buffers: the last byte of a buffer is the last of its page, and the page after it can't be touched */
-static uint8_t *pages;
-static size_t page;
+/* ---- the calls, and the refusals that each can give and has given */
+enum call { STEP, MISSING, FORECAST, BATCH, FORECASTS, WEIGHT, CALLS };
+static const char *const names[CALLS] = {"step", "missing", "forecast", "batch", "forecasts", "weight"};
+#define BIT(code) (1u << (code))
+#define OF_A_GROUP (BIT(11) - BIT(2)) /* 2 to 10 */
+#define OF_A_READING (BIT(13) | BIT(14) | BIT(15))
+static const unsigned refusals[CALLS] = {OF_A_GROUP | OF_A_READING,           OF_A_GROUP | BIT(14),           OF_A_GROUP | BIT(11),
+                                         OF_A_GROUP | BIT(12) | OF_A_READING, OF_A_GROUP | BIT(11) | BIT(12), OF_A_GROUP | BIT(11)};
+static unsigned long given[CALLS][256];
 
-static void map_pages(void) {
-    page = (size_t)sysconf(_SC_PAGESIZE);
-    pages = mmap(NULL, 2 * page, PROT_READ | PROT_WRITE, MAP_PRIVATE | MAP_ANONYMOUS, -1, 0);
-    if (pages == MAP_FAILED || mprotect(pages + page, page, PROT_NONE) != 0) {
+static int answered(enum call call, uint8_t got, uint8_t code) {
+    calls++;
+    given[call][got]++;
+    if (got != code) {
+        failures++;
+        fprintf(stderr, "%s: %s returned %d and not %d (call %lu)\n", what, names[call], got, code, calls);
+        if (failures > 20)
+            exit(1);
+    }
+    return got;
+}
+
+static void all_given(void) {
+    what = "refusals";
+    for (int call = 0; call < CALLS; call++)
+        for (int code = 0; code < 256; code++) {
+            int can = code == 0 || (code < 16 && refusals[call] & BIT(code));
+            if (can != (given[call][code] != 0)) {
+                failures++;
+                fprintf(stderr, "%s: %d was %s\n", names[call], code, can ? "never given" : "given");
+            }
+        }
+}
+
+/* ---- buffers: the last byte of a buffer is the last of its pages, and the page after it can't be touched */
+struct pages {
+    uint8_t *end;
+};
+
+static struct pages map_pages(size_t size) {
+    size_t page = (size_t)sysconf(_SC_PAGESIZE), used = (size + GUARD + page - 1) / page * page;
+    uint8_t *start = mmap(NULL, used + page, PROT_READ | PROT_WRITE, MAP_PRIVATE | MAP_ANONYMOUS, -1, 0);
+    if (start == MAP_FAILED || mprotect(start + used, page, PROT_NONE) != 0) {
         perror("pages");
         exit(1);
     }
+    return (struct pages){start + used};
 }
 
-static uint8_t *lend(const uint8_t *bytes, size_t length) {
-    uint8_t *at = pages + page - length;
+static void *lend(struct pages pages, const void *bytes, size_t length) {
+    uint8_t *at = pages.end - length;
     memset(at - GUARD, GUARD_BYTE, GUARD);
     if (length > 0)
         memcpy(at, bytes, length);
     return at;
 }
 
-static void expect_bytes(const uint8_t *at, const uint8_t *bytes, size_t length) {
+static void expect_bytes(const void *lent, const void *bytes, size_t length) {
+    const uint8_t *at = lent;
     for (int i = 1; i <= GUARD; i++)
         expect(at[-i] == GUARD_BYTE, "a byte before the buffer was written");
-    expect(length == 0 || memcmp(at, bytes, length) == 0, "the group holds other bytes than expected");
+    expect(length == 0 || memcmp(at, bytes, length) == 0, "a buffer holds other bytes than expected");
 }
+
+enum { MOST_CELLS = 600 };
+static struct pages groups, number_cells, reading_cells;
 
 /* the number's cell between two guards */
 struct cell {
@@ -69,84 +110,111 @@ static void expect_cell(struct cell c, int64_t value) {
     expect(c.value == value, "the lent number is not the one expected");
 }
 
-/* ---- one call on a copy of the bytes beside the reference; what the group then holds goes back into the bytes */
+/* ---- one call on a lent copy of the bytes beside the reference; what the group then holds goes back into the bytes */
 static int try_step(uint8_t *bytes, size_t length, int32_t reading) {
-    struct ref_state st;
-    uint8_t after[MOST];
+    uint8_t *at = lend(groups, bytes, length);
     struct cell c = fresh();
     int64_t e = UNTOUCHED;
-    int code = ref_open(bytes, length, &st);
-    if (!code)
-        code = ref_step(&st, reading, &e);
-    if (!code)
-        expect(ref_group(&st, after) == length, "the reference writes a group of another length");
-    else
-        memcpy(after, bytes, length);
-    uint8_t *at = lend(bytes, length);
-    calls++;
-    int got = forecaster_step(at, length, reading, &c.value);
-    expect(got == code, "step returned another number");
-    expect_bytes(at, after, length);
+    uint8_t code = ref_step(bytes, length, reading, &e);
+    int got = answered(STEP, forecaster_step(at, length, reading, &c.value), code);
+    expect_bytes(at, bytes, length);
     expect_cell(c, e);
-    memcpy(bytes, after, length);
     return got;
 }
 
 static int try_missing(uint8_t *bytes, size_t length) {
-    struct ref_state st;
-    uint8_t after[MOST];
-    int code = ref_open(bytes, length, &st);
-    if (!code)
-        code = ref_missing(&st);
-    if (!code)
-        ref_group(&st, after);
-    else
-        memcpy(after, bytes, length);
-    uint8_t *at = lend(bytes, length);
-    calls++;
-    int got = forecaster_missing(at, length);
-    expect(got == code, "missing returned another number");
-    expect_bytes(at, after, length);
-    memcpy(bytes, after, length);
+    uint8_t *at = lend(groups, bytes, length);
+    uint8_t code = ref_missing(bytes, length);
+    int got = answered(MISSING, forecaster_missing(at, length), code);
+    expect_bytes(at, bytes, length);
     return got;
 }
 
 static int try_forecast(const uint8_t *bytes, size_t length, uint32_t horizon) {
-    struct ref_state st;
+    const uint8_t *at = lend(groups, bytes, length);
     struct cell c = fresh();
     int64_t f = UNTOUCHED;
-    int code = ref_open(bytes, length, &st);
-    if (!code)
-        code = ref_forecast(&st, horizon, &f);
-    const uint8_t *at = lend(bytes, length);
-    calls++;
-    int got = forecaster_forecast(at, length, horizon, &c.value);
-    expect(got == code, "forecast returned another number");
+    uint8_t code = ref_forecast(bytes, length, horizon, &f);
+    int got = answered(FORECAST, forecaster_forecast(at, length, horizon, &c.value), code);
     expect_bytes(at, bytes, length);
     expect_cell(c, f);
     return got;
 }
 
-/* all three calls on bytes that each must refuse by the same number */
+/* cells that nobody has written */
+static int64_t *untouched(int64_t *cells, size_t room) {
+    for (size_t i = 0; i < room; i++)
+        cells[i] = UNTOUCHED + (int64_t)i;
+    return lend(number_cells, cells, room * sizeof *cells);
+}
+
+static int try_batch(const uint8_t *bytes, size_t length, const int32_t *readings, size_t n, size_t room) {
+    int64_t expected[MOST_CELLS];
+    const uint8_t *at = lend(groups, bytes, length);
+    const int32_t *read = lend(reading_cells, readings, n * sizeof *readings);
+    int64_t *cells = untouched(expected, room);
+    size_t taken, got_taken[3] = {77, 77, 77};
+    uint8_t code = ref_batch(bytes, length, readings, n, expected, room, &taken);
+    int got = answered(BATCH, bench_batch(at, length, read, n, cells, room, &got_taken[1]), code);
+    expect_bytes(at, bytes, length);
+    expect_bytes(read, readings, n * sizeof *readings);
+    expect_bytes(cells, expected, room * sizeof *expected);
+    expect(got_taken[0] == 77 && got_taken[2] == 77, "a byte beside the readings taken was written");
+    expect(got_taken[1] == taken, "the readings taken are not those expected");
+    return got;
+}
+
+static int try_forecasts(const uint8_t *bytes, size_t length, uint32_t horizon, size_t room) {
+    int64_t expected[MOST_CELLS];
+    const uint8_t *at = lend(groups, bytes, length);
+    int64_t *cells = untouched(expected, room);
+    uint8_t code = ref_forecasts(bytes, length, horizon, expected, room);
+    int got = answered(FORECASTS, bench_forecasts(at, length, horizon, cells, room), code);
+    expect_bytes(at, bytes, length);
+    expect_bytes(cells, expected, room * sizeof *expected);
+    return got;
+}
+
+static int try_weight(const uint8_t *bytes, size_t length, uint32_t horizon) {
+    const uint8_t *at = lend(groups, bytes, length);
+    uint64_t w = UNTOUCHED, got_w[3] = {UNTOUCHED, UNTOUCHED, UNTOUCHED};
+    uint8_t code = ref_weight(bytes, length, horizon, &w);
+    int got = answered(WEIGHT, bench_weight(at, length, horizon, &got_w[1]), code);
+    expect_bytes(at, bytes, length);
+    expect(got_w[0] == UNTOUCHED && got_w[2] == UNTOUCHED, "a byte beside the weight was written");
+    expect(got_w[1] == w, "the weight is not the one expected");
+    return got;
+}
+
+/* all calls on bytes that each must refuse by the same number, and leave as they are */
 static void all_refuse(const uint8_t *bytes, size_t length, int code) {
     uint8_t copy[MOST];
     memcpy(copy, bytes, length);
     expect(try_step(copy, length, 5) == code, "a step was not refused by this number");
     expect(try_missing(copy, length) == code, "a missing reading was not refused by this number");
     expect(try_forecast(copy, length, 1) == code, "a forecast was not refused by this number");
+    expect(memcmp(copy, bytes, length) == 0, "a refused call wrote into the group");
+    const int32_t readings[] = {5, 6};
+    expect(try_batch(bytes, length, readings, 2, 2) == code, "a batch was not refused by this number");
+    expect(try_forecasts(bytes, length, 2, 2) == code, "a call for all horizons was not refused by this number");
+    expect(try_weight(bytes, length, 1) == code, "a weight was not refused by this number");
 }
 
 /* ---- groups */
+static int trend_of(int model) {
+    return model % 4;
+}
+
+static int seasonal(int model) {
+    return model >= 4;
+}
+
 static struct ref_state plain(int model, int m) {
-    struct ref_state st;
-    memset(&st, 0, sizeof st);
-    st.trend = model % 4;
-    st.season = model / 4;
-    st.m = m;
-    st.A = 16384;
-    st.B = st.trend ? 4096 : 0;
-    st.G = st.season ? 8192 : 0;
-    st.F = st.trend == 0 ? 0 : st.trend == 1 ? 65536 : 58982;
+    struct ref_state st = {.model = model, .m = m, .A = 16384};
+    int trend = trend_of(model);
+    st.B = trend ? 4096 : 0;
+    st.G = seasonal(model) ? 8192 : 0;
+    st.F = trend == 0 ? 0 : trend == 1 ? 65536 : 58982;
     for (int k = 0; k < m; k++)
         st.s[k] = 65536 * (k % 7 - 3);
     return st;
@@ -155,56 +223,67 @@ static struct ref_state plain(int model, int m) {
 static const int models[] = {0, 1, 2, 4, 5, 6};
 static const int periods[] = {2, 3, 24, 48};
 
-/* ---- the answers of document 01's listing and station cases */
+/* ---- document 01's listing and station cases, by the numbers that stand there */
+static void expect_state(const uint8_t *at, struct ref_state st) {
+    uint8_t bytes[MOST];
+    size_t n = ref_group(&st, bytes);
+    expect_bytes(at, bytes, n);
+}
+
 static void listed_cases(void) {
     uint8_t bytes[MOST];
     struct ref_state st;
     int64_t number = 0;
     what = "T2";
-    st = plain(0, 0);
-    st.A = 32768;
+    st = plain(0, 0), st.A = 32768;
     size_t n = ref_group(&st, bytes);
-    uint8_t *at = lend(bytes, n);
+    uint8_t *at = lend(groups, bytes, n);
     expect(forecaster_step(at, n, 10, &number) == 0 && number == 655360, "e of the listing's step");
+    st.l = 327680, st.count = 1;
+    expect_state(at, st);
     expect(forecaster_forecast(at, n, 2, &number) == 0 && number == 327680, "the listing's forecast");
     what = "T3";
-    st = plain(1, 0);
-    st.A = 32768;
-    st.B = 16384;
-    st.b = 65536;
+    st = plain(1, 0), st.A = 32768, st.B = 16384, st.b = 65536;
     n = ref_group(&st, bytes);
-    at = lend(bytes, n);
+    at = lend(groups, bytes, n);
+    uint64_t weight = 0;
+    expect(bench_weight(at, n, 3, &weight) == 0 && weight == UINT64_C(11005853696), "T7: the weight of 3");
     expect(forecaster_step(at, n, 3, &number) == 0, "the step");
-    ref_open(at, n, &st);
-    expect(st.l == 131072 && st.b == 98304, "l 131072, b 98304");
+    st.l = 131072, st.b = 98304, st.count = 1;
+    expect_state(at, st);
     expect(forecaster_forecast(at, n, 3, &number) == 0 && number == 425984, "forecast 3");
-    what = "T5 and T6";
-    st = plain(4, 2);
-    st.G = 32768;
-    st.s[0] = 65536;
-    st.s[1] = -65536;
+    what = "T4";
+    st = plain(2, 0), st.A = 0, st.B = 0, st.F = 32768, st.b = 3;
     n = ref_group(&st, bytes);
-    at = lend(bytes, n);
+    at = lend(groups, bytes, n);
+    expect(forecaster_step(at, n, 0, &number) == 0, "the step");
+    st.l = 2, st.b = 2, st.count = 1;
+    expect_state(at, st);
+    expect(forecaster_forecast(at, n, 2, &number) == 0 && number == 4, "forecast 2");
+    what = "T5 and T6";
+    st = plain(4, 2), st.G = 32768, st.s[0] = 65536, st.s[1] = -65536;
+    n = ref_group(&st, bytes);
+    at = lend(groups, bytes, n);
+    expect(bench_weight(at, n, 3, &weight) == 0 && weight == UINT64_C(6979321856), "T8: the weight of 3");
     expect(forecaster_step(at, n, 5, &number) == 0, "the step");
-    ref_open(at, n, &st);
-    expect(st.l == 65536 && st.s[0] == 196608 && st.p == 1 && st.count == 1, "l 65536, first s 196608, p 1");
+    st.l = 65536, st.s[0] = 196608, st.p = 1, st.count = 1;
+    expect_state(at, st);
     const int64_t forecasts[] = {0, 262144, 0};
     for (uint32_t h = 1; h <= 3; h++)
         expect(forecaster_forecast(at, n, h, &number) == 0 && number == forecasts[h - 1], "forecasts 1, 2, 3");
     expect(forecaster_missing(at, n) == 0, "the missing reading");
-    ref_open(at, n, &st);
-    expect(st.l == 65536 && st.s[0] == 196608 && st.s[1] == -65536 && st.p == 0 && st.count == 2, "p 0 and the count");
-    calls += 8;
+    st.p = 0, st.count = 2;
+    expect_state(at, st);
+    calls += 12;
 }
 
 /* ---- refusals 2, 3 and 4 at every place of every kind of group */
 static void cuts_and_commands(void) {
     for (size_t i = 0; i < sizeof models / sizeof *models; i++)
         for (size_t j = 0; j < sizeof periods / sizeof *periods; j++) {
-            int season = models[i] >= 4;
-            if (!season && j > 0)
+            if (!seasonal(models[i]) && j > 0)
                 continue;
-            struct ref_state st = plain(models[i], season ? periods[j] : 0);
+            struct ref_state st = plain(models[i], seasonal(models[i]) ? periods[j] : 0);
             uint8_t bytes[MOST];
             size_t n = ref_group(&st, bytes);
             what = "a cut group";
@@ -276,20 +355,20 @@ static void operands(void) {
     }
     what = "parameters";
     for (size_t i = 0; i < sizeof models / sizeof *models; i++) {
-        int m = models[i] >= 4 ? 2 : 0;
+        int m = seasonal(models[i]) ? 2 : 0, trend = trend_of(models[i]);
         st = plain(models[i], m), st.A = 65536;
         TAKEN();
         st.A = 65537;
         REFUSED(FORECASTER_BAD_PARAMETER);
         st.A = UINT32_MAX;
         REFUSED(FORECASTER_BAD_PARAMETER);
-        st = plain(models[i], m), st.B = st.trend ? 65537 : 1;
+        st = plain(models[i], m), st.B = trend ? 65537 : 1;
         REFUSED(FORECASTER_BAD_PARAMETER);
-        st = plain(models[i], m), st.G = st.season ? 65537 : 1;
+        st = plain(models[i], m), st.G = m ? 65537 : 1;
         REFUSED(FORECASTER_BAD_PARAMETER);
-        st = plain(models[i], m), st.F = st.trend == 0 ? 1 : st.trend == 1 ? 65535 : 65536;
+        st = plain(models[i], m), st.F = trend == 0 ? 1 : trend == 1 ? 65535 : 65536;
         REFUSED(FORECASTER_BAD_PARAMETER);
-        st.F = st.trend == 0 ? 65536 : st.trend == 1 ? 65537 : 0;
+        st.F = trend == 0 ? 65536 : trend == 1 ? 65537 : 0;
         REFUSED(FORECASTER_BAD_PARAMETER);
     }
     what = "values";
@@ -366,10 +445,40 @@ static void operands(void) {
         n = ref_group(&st, bytes);
         expect(try_forecast(bytes, n, horizons[i]) == (i < 2 ? 0 : FORECASTER_BAD_HORIZON), "a horizon at the edge");
     }
+    what = "all horizons";
+    for (uint32_t h = 0; h <= 514; h++)
+        for (uint32_t less = 0; less <= 2; less++) {
+            size_t room = h + 1 > less ? h + 1 - less : 0;
+            int code = h == 0 || h > 512 ? FORECASTER_BAD_HORIZON : room < h ? 12 : 0;
+            st = plain(6, 3);
+            n = ref_group(&st, bytes);
+            expect(try_forecasts(bytes, n, h, room) == code, "horizon and room");
+            expect(try_weight(bytes, n, h) == (code == 12 ? 0 : code), "a weight's horizon");
+        }
+    what = "a batch";
+    const int32_t mark = INT32_MIN;
+    const int32_t batch[] = {5, mark, -7, 1000000, 1000001, 3, mark};
+    for (size_t m = 0; m < 7; m++)
+        for (size_t room = 0; room < 9; room++) {
+            st = plain(6, 3);
+            n = ref_group(&st, bytes);
+            expect(try_batch(bytes, n, batch, m, room) == (room < m ? 12 : m > 4 ? FORECASTER_BAD_READING : 0), "readings and room");
+        }
+    st = plain(5, 2), st.count = full;
+    n = ref_group(&st, bytes);
+    expect(try_batch(bytes, n, batch, 0, 0) == 0, "a batch of no readings was refused");
+    expect(try_batch(bytes, n, batch, 1, 1) == FORECASTER_COUNT_FULL, "a reading was taken");
+    expect(try_batch(bytes, n, batch + 1, 1, 1) == FORECASTER_COUNT_FULL, "a missing reading was taken");
+    expect(try_batch(bytes, n, batch + 4, 1, 1) == FORECASTER_BAD_READING, "13 comes before 14");
+    st.count = full - 2;
+    n = ref_group(&st, bytes);
+    expect(try_batch(bytes, n, batch, 2, 2) == 0, "the last readings were refused");
+    expect(try_batch(bytes, n, batch, 3, 3) == FORECASTER_COUNT_FULL, "one reading too many was taken");
     what = "T12";
     st = plain(1, 0), st.A = 0, st.B = 0, st.l = range, st.b = range;
     n = ref_group(&st, bytes);
     expect(try_step(bytes, n, 1000000) == FORECASTER_LEAVES_RANGE, "a level left its range");
+    expect(try_batch(bytes, n, batch + 3, 1, 1) == FORECASTER_LEAVES_RANGE, "a level left its range");
     what = "a new trend or season value";
     st = plain(1, 0), st.A = 0, st.B = 65536, st.l = -range;
     n = ref_group(&st, bytes);
@@ -397,15 +506,15 @@ static int64_t pick(int64_t low, int64_t high) {
 
 static struct ref_state random_state(void) {
     int model = models[random64() % 6];
-    struct ref_state st = plain(model, model >= 4 ? (int)pick(2, 48) : 0);
+    struct ref_state st = plain(model, seasonal(model) ? (int)pick(2, 48) : 0);
     const int64_t range = pick(0, 3) == 0 ? INT64_C(1) << 40 : INT64_C(1) << 30;
-    st.A = pick(0, 65536);
-    if (st.trend)
-        st.B = pick(0, 65536), st.b = pick(-range, range);
-    if (st.trend == 2)
-        st.F = pick(1, 65535);
-    if (st.season)
-        st.G = pick(0, 65536), st.p = (int)pick(0, st.m - 1);
+    st.A = (uint32_t)pick(0, 65536);
+    if (trend_of(model))
+        st.B = (uint32_t)pick(0, 65536), st.b = pick(-range, range);
+    if (trend_of(model) == 2)
+        st.F = (uint32_t)pick(1, 65535);
+    if (st.m)
+        st.G = (uint32_t)pick(0, 65536), st.p = (int)pick(0, st.m - 1);
     st.l = pick(-range, range);
     for (int k = 0; k < st.m; k++)
         st.s[k] = pick(-range, range);
@@ -436,6 +545,17 @@ static void damaged_groups(int rounds) {
                     bytes[n++] = (uint8_t)random64();
             }
         try_forecast(bytes, n, (uint32_t)pick(0, 600));
+        if (i % 4 == 0) {
+            int32_t readings[40];
+            size_t many = (size_t)pick(0, 40), room = pick(0, 9) == 0 ? (size_t)pick(0, 40) : many + (size_t)pick(0, 3);
+            int32_t limit = pick(0, 1) ? 1000000 : 30;
+            for (size_t k = 0; k < many; k++)
+                readings[k] = (int32_t)(pick(0, 19) == 0 ? INT32_MIN : pick(0, 99) == 0 ? pick(INT32_MIN, INT32_MAX) : pick(-limit, limit));
+            try_batch(bytes, n, readings, many, room);
+            uint32_t horizon = (uint32_t)(pick(0, 9) == 0 ? pick(0, 600) : pick(1, 60));
+            try_forecasts(bytes, n, horizon, pick(0, 9) == 0 ? (size_t)pick(0, 600) : horizon);
+            try_weight(bytes, n, (uint32_t)pick(0, 600));
+        }
         switch (pick(0, 1)) {
         case 0:
             try_step(bytes, n, (int32_t)(pick(0, 9) == 0 ? pick(INT32_MIN, INT32_MAX) : pick(-1000000, 1000000)));
@@ -450,7 +570,7 @@ static void damaged_groups(int rounds) {
 static void long_run(int model, int m, int steps) {
     uint8_t bytes[MOST];
     struct ref_state st = plain(model, m);
-    if (st.trend)
+    if (trend_of(model))
         st.B = 256; /* with a long season a larger one is unstable, and most steps end in refusal 15 */
     size_t n = ref_group(&st, bytes);
     uint64_t accepted = 0;
@@ -470,24 +590,28 @@ static void long_run(int model, int m, int steps) {
             accepted += try_step(bytes, n, reading) == 0;
         }
     }
-    ref_open(bytes, n, &st);
-    expect(st.count == accepted, "the count is not that of the calls accepted");
+    uint64_t count;
+    memcpy(&count, bytes + n - 8, sizeof count);
+    expect(count == accepted, "the count is not that of the calls accepted");
     expect(accepted > (uint64_t)steps / 2, "most calls were refused");
 }
 
 int main(void) {
-    map_pages();
+    groups = map_pages(MOST);
+    number_cells = map_pages(MOST_CELLS * sizeof(int64_t));
+    reading_cells = map_pages(MOST_CELLS * sizeof(int32_t));
     listed_cases();
     cuts_and_commands();
     operands();
     damaged_groups(200000);
     what = "a long run";
     for (size_t i = 0; i < sizeof models / sizeof *models; i++)
-        if (models[i] < 4)
+        if (!seasonal(models[i]))
             long_run(models[i], 0, 200000);
         else
             for (size_t j = 0; j < sizeof periods / sizeof *periods; j++)
                 long_run(models[i], periods[j], 100000);
+    all_given();
     printf("station: %lu calls, %lu failures\n", calls, failures);
     return failures != 0;
 }

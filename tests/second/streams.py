@@ -258,6 +258,21 @@ def long_runs():
     yield bytes(f.INPUT_LIMIT + 1)
 
 
+def longest():
+    """Streams as long as the program's input may be, a byte less and a byte more, and twice as long; not stored. The last
+    byte that may be read is a command of its own, the last of a reading, or the first of a command that is cut there."""
+    group = f.group_bytes(nominal(6, 24))
+    for last in b"\x21", f.encode(0x20, 19), b"\x40", b"\x30", b"\xff":
+        rest = f.INPUT_LIMIT - len(group) - len(last)
+        whole = group + join(*[(0x20, 20 + k % 3) for k in range(rest // 5)], *[(0x21,)] * (rest % 5)) + last
+        assert len(whole) == f.INPUT_LIMIT
+        yield whole[:-1]
+        yield whole
+        yield whole + b"\x21"
+    yield whole + b"\xff"
+    yield whole + whole
+
+
 PLAYED = [document, models, edges, operands, order, leaving, places, saves, damaged, long_runs]
 
 

@@ -1,0 +1,20 @@
+/* The benchmark's entry points, of crates/bench_calls: calls that the station's C interface does not have, on a slice that
+ * holds one group. Each returns 0 or the refusal's number: 2 to 10 of the group, 3 for any byte after it, then its own. */
+#ifndef BENCH_CALLS_H
+#define BENCH_CALLS_H
+
+#include <stddef.h>
+#include <stdint.h>
+
+/* A batch from the group's state: cell k gets the level after reading k, *taken the readings taken, 0 where a check before
+ * the first stops it. 12, then each reading's 13, 14, 15, at the first of which it halts. The group is not written. */
+uint8_t bench_batch(const uint8_t *snapshot, size_t length, const int32_t *readings, size_t n, int64_t *levels, size_t room,
+                    size_t *taken);
+
+/* The forecasts for 1 to the horizon into the first cells; nothing is written where refused. 11, 12. */
+uint8_t bench_forecasts(const uint8_t *snapshot, size_t length, uint32_t horizon, int64_t *values, size_t room);
+
+/* The weight of a horizon into *weight, which stays as it was where refused. 11. */
+uint8_t bench_weight(const uint8_t *snapshot, size_t length, uint32_t horizon, uint64_t *weight);
+
+#endif

@@ -1,0 +1,19 @@
+/* One build of tests/c/reference.c under names of its own: compiled once by each compiler at each level, -DVERSION=gcc_O2
+ * say, so that all builds stand in one program. */
+#include "calls.h"
+
+#define PASTE(a, b) a##_##b
+#define NAME(a, b) PASTE(a, b)
+#define TEXT(a) #a
+#define QUOTED(a) TEXT(a)
+
+#define ref_step NAME(VERSION, step)
+#define ref_missing NAME(VERSION, missing)
+#define ref_forecast NAME(VERSION, forecast)
+#define ref_forecasts NAME(VERSION, forecasts)
+#define ref_weight NAME(VERSION, weight)
+#define ref_batch NAME(VERSION, batch)
+#define ref_group NAME(VERSION, group)
+#include "reference.c"
+
+const struct calls NAME(VERSION, calls) = {QUOTED(VERSION), ref_step, ref_missing, ref_forecast, ref_forecasts, ref_weight, ref_batch};
