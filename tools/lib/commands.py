@@ -54,6 +54,7 @@ COMMANDS = {
     )
 }
 ONLY_IN_GROUP = (LEVEL, SEASON, POSITION)
+LONGEST_GROUP = sum(COMMANDS[byte].length for byte in (MODEL, LEVEL, POSITION)) + 255 * COMMANDS[SEASON].length
 CODES = {field.name: field.code for command in COMMANDS.values() for field in command.fields}
 
 
@@ -139,3 +140,12 @@ def decode(stream):
         found.append(Decoded(at, taken[1], stream[at], taken[0]))
         at = taken[1]
     return found, at
+
+
+def items(stream):
+    """The stream cut into its commands and groups; what is none of them comes last.
+
+    Of that no more is kept than the longest group has bytes: the program refuses it before.
+    """
+    found, at = decode(stream)
+    return [stream[command.start : command.end] for command in found] + [stream[at : at + LONGEST_GROUP]] * (at < len(stream))
