@@ -1,5 +1,6 @@
 """Cases of the tools' tests: each runs in a folder of its own, which is removed after it."""
 
+import concurrent.futures
 import os
 import pathlib
 import subprocess
@@ -92,21 +93,33 @@ def snapshot_of_tree():
     return found
 
 
-def run_all():
-    """Runs every case, prints each that fails, and the summary. The exit status."""
+def outcome(named):
+    """What is wrong with a case, or nothing."""
+    name, function = named
+    try:
+        with tempfile.TemporaryDirectory() as folder:
+            function(pathlib.Path(folder))
+    except Failed as e:
+        return f"FAILED {name}: {e}"
+    except Exception as e:
+        return f"FAILED {name}: {type(e).__name__}: {e}"
+    return None
+
+
+def run_all(words):
+    """Runs every case whose name has one of the words (all without any), prints each that fails, and the summary. The exit status."""
+    chosen = [named for named in CASES if not words or any(word in named[0] for word in words)]
     if not PROGRAM.exists():
         print("tools: target/bin/forecast_run is not there: run `rt check forecast_run` first")
         return 1
     before, failed, began = snapshot_of_tree(), 0, time.monotonic()
-    for name, function in CASES:
-        try:
-            with tempfile.TemporaryDirectory() as folder:
-                function(pathlib.Path(folder))
-        except Exception as e:
-            failed += 1
-            print(f"FAILED {name}: {type(e).__name__ + ': ' if not isinstance(e, Failed) else ''}{e}")
+    with concurrent.futures.ThreadPoolExecutor(os.cpu_count() or 1) as workers:
+        for wrong in workers.map(outcome, chosen):
+            if wrong:
+                failed += 1
+                print(wrong)
     if snapshot_of_tree() != before:
         failed += 1
         print("FAILED the tree is left as it was")
-    print(f"tools: {len(CASES) + 1} cases, {failed} failed ({time.monotonic() - began:.0f} s)")
-    return 1 if failed else 0
+    print(f"tools: {len(chosen) + 1} cases, {failed} failed ({time.monotonic() - began:.0f} s)")
+    return 1 if failed or not chosen else 0

@@ -107,17 +107,26 @@ MISTAKES = [
 ]
 
 
+def told(folder, tool_name, text, line, message):
+    ended = play(folder, text, tool_name=tool_name)
+    same(ended.err, f"{tool_name}: day.txt, line {line}: {message}\n", "the message")
+    same((ended.status, ended.out), (2, b""), "status and output")
+
+
 def add(name, text, line, message):
     @case(f"mistake: {name}")
     def check(folder):
-        for tool_name in ("stream", "run"):
-            ended = play(folder, text, tool_name=tool_name)
-            same(ended.err, f"{tool_name}: day.txt, line {line}: {message}\n", "the message")
-            same((ended.status, ended.out), (2, b""), "status and output")
+        told(folder, "stream", text, line, message)
 
 
 for row in MISTAKES:
     add(*row)
+
+
+@case("mistake: tools/run tells what tools/stream tells")
+def run_tells(folder):
+    for _, text, line, message in MISTAKES[::10]:
+        told(folder, "run", text, line, message)
 
 
 @case("mistake: bytes that are not UTF-8")

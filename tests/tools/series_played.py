@@ -13,11 +13,14 @@ GRAIN = 65536
 
 def unlimited(stream):
     """The lines of the second implementation without the input's limit."""
-    limit, f.INPUT_LIMIT = f.INPUT_LIMIT, len(stream)
-    try:
-        return f.play(stream)[0]
-    finally:
-        f.INPUT_LIMIT = limit
+    x, at, lines = None, 0, []
+    while at < len(stream):
+        try:
+            x, line, at = f.perform(x, stream, at)
+        except f.Rejected as r:
+            return lines + [f"X {r.code} {r.offset}"]
+        lines.append(line)
+    return lines + [f"N {x.count if x else 0}"]
 
 
 def output(stream):
@@ -114,24 +117,31 @@ def as_file(values):
     return "".join("NA\n" if value is None else f"{value}\n" for value in values)
 
 
-@case("series: 45,000 readings in pieces give what one run would")
+LONG = ["--model", "damped", "--alpha", "0.3", "--beta", "0.01", "--phi", "0.9"]
+
+
+@case("series: 45,000 readings in pieces give what one run would, and so do 41,000 and a refused one")
 def long(folder):
     values = long_series(45000)
-    stream = f.group_bytes(State(model=2, A=19661, B=655, F=58982, l=values[0] * GRAIN)) + steps(values) + f.encode(0x30, 9)
-    words = ["--model", "damped", "--alpha", "0.3", "--beta", "0.01", "--phi", "0.9", "--then", "forecast 9"]
-    ended = series(folder, as_file(values), *words)
-    same((ended.status, ended.err, len(ended.out.splitlines())), (0, "", 45003), "status, message and lines")
-    same(ended.out == output(stream), True, "whether the lines are those of one run")
+    group = f.group_bytes(State(model=2, A=19661, B=655, F=58982, l=values[0] * GRAIN))
+    expected = unlimited(group + steps(values) + f.encode(0x30, 9))
+    ended = series(folder, as_file(values), *LONG, "--then", "forecast 9")
+    same((ended.status, ended.err), (0, ""), "status and message")
+    same_lines(ended.text.splitlines(), expected)
+
+    values = values[:41000] + [1000001] + values[41000:]
+    refused = f"X 13 {len(group + steps(values[:41000]))}"
+    ended = series(folder, as_file(values), *LONG)
+    same_lines(ended.text.splitlines(), expected[:41001] + [refused])
+    message = "series: room.csv, line 41001: reading number 41001, 1000001, is refused: the reading is out of range\n"
+    same((ended.status, ended.err), (1, message), "status and message")
 
 
-@case("series: a reading refused in a later piece is named by its number")
-def long_refused(folder):
-    values = long_series(41000) + [1000001] + long_series(500)
-    stream = opened(values[0]) + steps(values)
-    ended = series(folder, as_file(values))
-    same(ended.status, 1, "status")
-    same(ended.out == output(stream), True, "whether the lines are those of one run, X at the end")
-    same(ended.err, "series: room.csv, line 41001: reading number 41001, 1000001, is refused: the reading is out of range\n", "the message")
+def same_lines(found, expected):
+    """As `same`, for lists too long to be printed."""
+    same(len(found), len(expected), "the number of lines")
+    for k, pair in enumerate(zip(found, expected)):
+        same(*pair, f"line {k + 1}")
 
 
 @case("series: a model that the program refuses")

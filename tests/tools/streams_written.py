@@ -73,8 +73,8 @@ def nearest(folder):
     # in 65,536ths: half below and above 0, just beside each half, and a value that no double holds
     grains = {"1/131072": 1, "-1/131072": 0, "0.000007629395": 1, "0.000007629394": 0, "-0.000007629395": -1, "-0.000007629394": 0}
     grains.update({"3/131072": 2, "-3/131072": -1, "-0.0000228882": -2, "16777216.000007629394531250001": 2**40 + 1})
-    for word, expected in grains.items():
-        same(written(folder, f"model none\nlevel {word}\n"), S(State(l=expected)), f"level {word}")
+    text = "".join(f"model none\nlevel {word}\n" for word in grains)
+    same(written(folder, text), b"".join(S(State(l=expected)) for expected in grains.values()), "the stream")
 
 
 @case("written: 65,537 bytes and more are written, for the program to refuse")
@@ -102,10 +102,10 @@ def random_states(folder):
         same(found, S(x), text)
 
 
-@case("decoded: what the encoder wrote, and every line's command in 3,000 random streams")
+@case("decoded: what the encoder wrote, and every line's command in 400 random streams")
 def decoded(folder):
     rng = random.Random(6)
-    for _ in range(3000):
+    for _ in range(400):
         stream = random_streams.stream(rng)
         found = f.play(stream)[0]
         rows = list(lines.explained([texts.Piece(stream, (texts.Source(1, "bytes"),), 1)], found))
