@@ -14,7 +14,7 @@ if [ -f fail ]; then exit 1; fi
 # as rt does, a crate with a stamp is taken as built
 if [ ! -f target/stamp/forecast_run ]; then
     mkdir -p target/bin target/stamp
-    cp {PROGRAM} target/bin/forecast_run
+    cp "{PROGRAM}" target/bin/forecast_run
     echo done > target/stamp/forecast_run
 fi
 """
