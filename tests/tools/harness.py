@@ -58,14 +58,14 @@ def environment(**changes):
 
 
 def started(words, folder, env=None, stdin=b"", stdout=subprocess.PIPE, timeout=30):
-    ended = subprocess.run(
-        [str(word) for word in words], cwd=folder, env=env or environment(), input=stdin, stdout=stdout, stderr=subprocess.PIPE, timeout=timeout
-    )
+    how = {"cwd": folder, "env": env or environment(), "input": stdin, "stdout": stdout, "timeout": timeout}
+    ended = subprocess.run([str(word) for word in words], stderr=subprocess.PIPE, **how)
     return Ended(ended.returncode, ended.stdout or b"", ended.stderr.decode())
 
 
 def tool(name, folder, *words, **how):
-    return started([TOOLS / name, *words], folder, **how)
+    """A tool under the Python of the tests; `shell` starts it by its first line, as a user does."""
+    return started([sys.executable, TOOLS / name, *words], folder, **how)
 
 
 def shell(command, folder, **how):
@@ -107,7 +107,7 @@ def outcome(named):
 
 
 def run_all(words):
-    """Runs every case whose name has one of the words (all without any), prints each that fails, and the summary. The exit status."""
+    """Runs every case whose name has one of the words, or all; prints each that fails and the summary. The exit status."""
     chosen = [named for named in CASES if not words or any(word in named[0] for word in words)]
     if not PROGRAM.exists():
         print("tools: target/bin/forecast_run is not there: run `rt check forecast_run` first")

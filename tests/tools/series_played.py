@@ -88,12 +88,12 @@ WRONG = [
     ("a column that is not there", TABLE, ["--column", "u"], "room.csv: no columns are called u; the first row has time, t"),
     ("a column's name twice", "t,t\n1,2\n", ["--column", "t"], "room.csv: 2 columns are called t; the first row has t, t"),
     ("a column's number", TABLE, ["--column", "3"], "room.csv: no column 3; rows have 2 fields"),
-    ("a row too short", "1,2\n3\n", ["--column", "1"], "room.csv, line 2: 1 fields, where the first row has 2"),
-    ("a blank row among columns", "1,2\n\n3,4\n", ["--column", "1"], "room.csv, line 2: 1 fields, where the first row has 2"),
+    ("a row too short", "1,2\n3\n", ["--column", "1"], "room.csv, line 2: 1 field, where the first row has 2"),
+    ("a blank row among columns", "1,2\n\n3,4\n", ["--column", "1"], "room.csv, line 2: 1 field, where the first row has 2"),
     ("an open quote", '1\n"2\n', [], "room.csv, line 2: unexpected end of data"),
     ("a parameter", "1\n", ["--alpha", "x"], "the text made of the options, line 2: alpha x is not a number"),
     ("a long m", "1\n", ["--m", "1000000000"], "m 1000000000 does not fit: 0 to 255"),
-    ("a season of another length", "1\n", ["--m", "2", "--season", "1"], "--season has 1 numbers, where m is 2"),
+    ("a season of another length", "1\n", ["--m", "2", "--season", "1"], "--season has 1 number, where m is 2"),
     ("bytes that are not UTF-8", b"1\n\xe9\n", [], "room.csv, line 2: the byte e9 is not UTF-8"),
 ]
 

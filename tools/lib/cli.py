@@ -1,5 +1,6 @@
 """Reading a file, writing the output, and the exit status of every tool."""
 
+import argparse
 import os
 import signal
 import sys
@@ -15,6 +16,12 @@ class Failure(Exception):
     def __init__(self, message, status=1):
         super().__init__(message)
         self.status = status
+
+
+def parser(description, usage):
+    """A parser of a tool's options: none may be shortened, so that a new one never changes what an old word means."""
+    layout = argparse.RawDescriptionHelpFormatter
+    return argparse.ArgumentParser(description=description, formatter_class=layout, allow_abbrev=False, usage=usage)
 
 
 def shown(word):

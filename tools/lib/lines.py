@@ -10,7 +10,7 @@ from typing import NamedTuple
 
 from lib.cli import Failure
 from lib.commands import COMMANDS, decode
-from lib.numerals import FIXED_POINT, readable
+from lib.numerals import FIXED_POINT, counted, readable
 
 REFUSALS = {
     1: "the input is longer than 65,536 bytes",
@@ -38,10 +38,6 @@ def units(fixed_point, scale):
 
 def variance_units(high, low, scale):
     return Fraction(int(high) * 2**64 + int(low), 2**32 * scale**2)
-
-
-def counted(number, noun):
-    return f"{number} {noun}{'' if int(number) == 1 else 's'}"
 
 
 MEANINGS = {

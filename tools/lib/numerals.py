@@ -58,3 +58,7 @@ def brief(number):
 def readable(value):
     """A number of the user's units: six digits, and no whole unit rounded away."""
     return f"{float(value):.6g}" if abs(value) < 10**6 else f"{float(value):.12g}"
+
+
+def counted(number, noun):
+    return f"{number} {noun}{'' if int(number) == 1 else 's'}"

@@ -25,7 +25,7 @@ def is_current():
         return False
     built = BUILT.stat().st_mtime
     files = (pathlib.Path(folder) / name for folder, _, names in os.walk(ROOT / "crates") for name in names)
-    return all(file.stat().st_mtime <= built for file in files)
+    return all(file.lstat().st_mtime <= built for file in files)
 
 
 def build():

@@ -7,7 +7,7 @@ from typing import NamedTuple, Optional
 
 from lib import texts
 from lib.cli import Mistake, read_text, shown
-from lib.numerals import decimal, nearest
+from lib.numerals import counted, decimal, nearest
 
 MISSING_WORDS = ("", "NA")
 
@@ -27,7 +27,7 @@ def rows(path, separator):
             row = [field.strip(" \t") for field in row] or [""]
             width = width or len(row)
             if len(row) != width:
-                raise Mistake(f"{path}, line {found.line_num}: {len(row)} fields, where the first row has {width}")
+                raise Mistake(f"{path}, line {found.line_num}: {counted(len(row), 'field')}, where the first row has {width}")
             yield found.line_num, row
     except csv.Error as e:
         raise Mistake(f"{path}, line {found.line_num}: {e}") from None
