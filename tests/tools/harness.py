@@ -64,8 +64,8 @@ def started(words, folder, env=None, stdin=b"", stdout=subprocess.PIPE, timeout=
 
 
 def tool(name, folder, *words, **how):
-    """A tool under the Python of the tests; `shell` starts it by its first line, as a user does."""
-    return started([sys.executable, TOOLS / name, *words], folder, **how)
+    """A tool under the Python of the tests, with its own library alone; `shell` starts it by its first line, as a user does."""
+    return started([sys.executable, "-S", TOOLS / name, *words], folder, **how)
 
 
 def shell(command, folder, **how):
