@@ -8,7 +8,7 @@ from forecaster import State
 from harness import PROGRAM, case, holds, play, same, tool
 from lib import commands, program
 
-GRAIN = 65536
+FIXED_POINT = 65536
 
 
 def unlimited(stream):
@@ -37,7 +37,7 @@ def series(folder, content, *words):
 
 
 def opened(level, **numbers):
-    return f.group_bytes(State(A=32768, l=level * GRAIN, **numbers))
+    return f.group_bytes(State(A=32768, l=level * FIXED_POINT, **numbers))
 
 
 TABLE = "time,t\n0:00,20.5\n1:00,\n2:00, NA \n3:00,21\n"
@@ -54,13 +54,13 @@ FILES = [
     ("a byte order mark and CRLF", "\ufeff" + TABLE.replace("\n", "\r\n"), ["--column", "t", "--scale", "10"], TAKEN),
     ("quotes and another separator", TABLE.replace(",", ";").replace("21", '"21"'), ["--column", "t", "--separator", ";", "--scale", "10"], TAKEN),
     ("a model", "5\n7\n", ["--model", "damped", "--alpha", "0.25", "--beta", "0.5", "--phi", "1/2", "--level=-1.5", "--trend", "2"],
-     f.group_bytes(State(model=2, A=16384, B=32768, F=32768, l=-98304, b=2 * GRAIN)) + steps([5, 7])),
+     f.group_bytes(State(model=2, A=16384, B=32768, F=32768, l=-98304, b=2 * FIXED_POINT)) + steps([5, 7])),
     ("a season that is given", "5\n7\n", ["--m", "2", "--gamma", "0.5", "--season=-1,1", "--place", "1"],
-     f.group_bytes(State(model=4, m=2, A=32768, G=32768, l=4 * GRAIN, s=(-GRAIN, GRAIN) + (0,) * 46, p=1)) + steps([5, 7])),
+     f.group_bytes(State(model=4, m=2, A=32768, G=32768, l=4 * FIXED_POINT, s=(-FIXED_POINT, FIXED_POINT) + (0,) * 46, p=1)) + steps([5, 7])),
     ("a season from the first readings", "5\nNA\n8\n9\n", ["--m", "3", "--place", "2"],
      f.group_bytes(State(model=4, m=3, A=32768, l=425984, s=(0, 98304, -98304) + (0,) * 45, p=2)) + steps([5, None, 8, 9])),
     ("a season around a level that is given", "5\n8\n", ["--m", "2", "--level", "6"],
-     f.group_bytes(State(model=4, m=2, A=32768, l=6 * GRAIN, s=(-GRAIN, 2 * GRAIN) + (0,) * 46)) + steps([5, 8])),
+     f.group_bytes(State(model=4, m=2, A=32768, l=6 * FIXED_POINT, s=(-FIXED_POINT, 2 * FIXED_POINT) + (0,) * 46)) + steps([5, 8])),
     ("lines after the readings", "5\n", ["--then", "forecast 3", "--then", "variance 2 4", "--then", "save"],
      opened(5) + steps([5]) + f.encode(0x30, 3) + f.encode(0x31, 2, 4) + b"\x40"),
 ]  # fmt: skip
@@ -123,7 +123,7 @@ LONG = ["--model", "damped", "--alpha", "0.3", "--beta", "0.01", "--phi", "0.9"]
 @case("series: 45,000 readings in pieces give what one run would, and so do 41,000 and a refused one")
 def long(folder):
     values = long_series(45000)
-    group = f.group_bytes(State(model=2, A=19661, B=655, F=58982, l=values[0] * GRAIN))
+    group = f.group_bytes(State(model=2, A=19661, B=655, F=58982, l=values[0] * FIXED_POINT))
     expected = unlimited(group + steps(values) + f.encode(0x30, 9))
     ended = series(folder, as_file(values), *LONG, "--then", "forecast 9")
     same((ended.status, ended.err), (0, ""), "status and message")
@@ -145,13 +145,13 @@ def same_lines(found, expected):
 
 
 @case("series: a model that the program refuses")
-def refused_model(folder):
+def rejected_model(folder):
     ended = series(folder, "1\n2\n", "--model", "damped")
     same(ended, (1, b"X 7 0\n", "series: model damped alpha 0.5 is refused: a parameter is not one the model allows\n"))
 
 
 @case("series: a line after the readings that the program refuses")
-def refused_then(folder):
+def rejected_then(folder):
     ended = series(folder, "1\n", "--then", "forecast 513")
     same(ended, (1, b"O 0 0\nE 0\nX 11 51\n", "series: forecast 513 is refused: the horizon is outside 1 to 512\n"))
 

@@ -18,7 +18,7 @@ def written(folder, text):
     return ended.out
 
 
-def wide_group(m, place, value):
+def wide_snapshot(m, place, value):
     """A group with any m that its byte can hold."""
     cells = b"".join(f.encode(0x12, k, value if k == place else 0) for k in range(m))
     return f.encode(0x10, 4, m, 0, 0, 0, 0) + f.encode(0x11, 0, 0) + cells + f.encode(0x13, 0, 0)
@@ -39,8 +39,8 @@ WRITTEN = [
     ("48 places", "model none m 48\n" + "".join(f"s {k} {k + 1}\n" for k in range(48)), S(State(model=4, m=48, s=SEASONS))),
     ("m 0", "model none m 0\n", S(State(model=4))),
     ("m 1", "model none m 1\ns 0 9\n", S(State(model=4, m=1, s=(9,) + (0,) * 47))),
-    ("m 49", "model none m 49\ns 48 -9\n", wide_group(49, 48, -9)),
-    ("m 255", "model none m 255\ns 254 9\n", wide_group(255, 254, 9)),
+    ("m 49", "model none m 49\ns 48 -9\n", wide_snapshot(49, 48, -9)),
+    ("m 255", "model none m 255\ns 254 9\n", wide_snapshot(255, 254, 9)),
     ("edges of the widths", "model none A 4294967295\nl -9223372036854775808\nplace 255\ncount 18446744073709551615\n",
      f.encode(0x10, 0, 0, 2**32 - 1, 0, 0, 0) + f.encode(0x11, -(2**63), 0) + f.encode(0x13, 255, 2**64 - 1)),
     ("readings at the edges", "reading -2147483648\nreading 2147483647\n", f.encode(0x20, -(2**31)) + f.encode(0x20, 2**31 - 1)),
@@ -71,10 +71,10 @@ for row in WRITTEN:
 @case("written: decimals go to the nearest 65,536th, the upper one of two as near")
 def nearest(folder):
     # in 65,536ths: half below and above 0, just beside each half, and a value that no double holds
-    grains = {"1/131072": 1, "-1/131072": 0, "0.000007629395": 1, "0.000007629394": 0, "-0.000007629395": -1, "-0.000007629394": 0}
-    grains.update({"3/131072": 2, "-3/131072": -1, "-0.0000228882": -2, "16777216.000007629394531250001": 2**40 + 1})
-    text = "".join(f"model none\nlevel {word}\n" for word in grains)
-    same(written(folder, text), b"".join(S(State(l=expected)) for expected in grains.values()), "the stream")
+    fixed_point = {"1/131072": 1, "-1/131072": 0, "0.000007629395": 1, "0.000007629394": 0, "-0.000007629395": -1, "-0.000007629394": 0}
+    fixed_point.update({"3/131072": 2, "-3/131072": -1, "-0.0000228882": -2, "16777216.000007629394531250001": 2**40 + 1})
+    text = "".join(f"model none\nlevel {word}\n" for word in fixed_point)
+    same(written(folder, text), b"".join(S(State(l=expected)) for expected in fixed_point.values()), "the stream")
 
 
 @case("written: 65,537 bytes and more are written, for the program to refuse")
@@ -116,10 +116,10 @@ def decoded(folder):
 
 
 @case("decoded: a group's numbers")
-def group_numbers(folder):
+def snapshot_numbers(folder):
     rng = random.Random(7)
     for _ in range(200):
         x = random_streams.state(rng)
-        found, end = commands.decode_group(S(x) + b"\x21")
+        found, end = commands.decode_snapshot(S(x) + b"\x21")
         same(replace(State(*found), s=found.s + (0,) * (48 - x.m)), x, "the numbers")
         same(end, len(S(x)), "the length")

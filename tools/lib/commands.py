@@ -53,8 +53,8 @@ COMMANDS = {
         Command(SAVE, "save", "S", ()),
     )
 }
-ONLY_IN_GROUP = (LEVEL, SEASON, POSITION)
-LONGEST_GROUP = sum(COMMANDS[byte].length for byte in (MODEL, LEVEL, POSITION)) + 255 * COMMANDS[SEASON].length
+ONLY_IN_SNAPSHOT = (LEVEL, SEASON, POSITION)
+LONGEST_SNAPSHOT = sum(COMMANDS[byte].length for byte in (MODEL, LEVEL, POSITION)) + 255 * COMMANDS[SEASON].length
 CODES = {field.name: field.code for command in COMMANDS.values() for field in command.fields}
 
 
@@ -114,7 +114,7 @@ def operands_at(stream, at, due=None):
     return struct.unpack_from(command.layout, stream, at + 1), at + command.length
 
 
-def decode_group(stream, at=0):
+def decode_snapshot(stream, at=0):
     """The Snapshot of the group at the offset, whatever its numbers, and the offset after it; None where there is none."""
     head = operands_at(stream, at, MODEL)
     level = head and operands_at(stream, head[1], LEVEL)
@@ -132,9 +132,9 @@ def decode(stream):
     """The commands and groups from the stream's start on, and the offset where it is none any more (its length if all are)."""
     found, at = [], 0
     while at < len(stream):
-        if stream[at] in ONLY_IN_GROUP:
+        if stream[at] in ONLY_IN_SNAPSHOT:
             break
-        taken = decode_group(stream, at) if stream[at] == MODEL else operands_at(stream, at)
+        taken = decode_snapshot(stream, at) if stream[at] == MODEL else operands_at(stream, at)
         if taken is None:
             break
         found.append(Decoded(at, taken[1], stream[at], taken[0]))
@@ -148,4 +148,4 @@ def items(stream):
     Of that no more is kept than the longest group has bytes: the program refuses it before.
     """
     found, at = decode(stream)
-    return [stream[command.start : command.end] for command in found] + [stream[at : at + LONGEST_GROUP]] * (at < len(stream))
+    return [stream[command.start : command.end] for command in found] + [stream[at : at + LONGEST_SNAPSHOT]] * (at < len(stream))

@@ -1,6 +1,6 @@
 """The program's lines, beside the text that they answer and in words.
 
-A new line is a row of MEANINGS; a new refusal a row of REFUSALS.
+A new line is a row of MEANINGS, a new refusal one of REJECTIONS.
 """
 
 import bisect
@@ -12,7 +12,7 @@ from lib.cli import Failure
 from lib.commands import COMMANDS, decode
 from lib.numerals import FIXED_POINT, counted, readable
 
-REFUSALS = {
+REJECTIONS = {
     1: "the input is longer than 65,536 bytes",
     2: "the command's first byte is unknown",
     3: "the command is out of place",
@@ -47,7 +47,7 @@ MEANINGS = {
     "F": lambda scale, horizon, value: f"forecast {units(value, scale)} for horizon {horizon}",
     "V": lambda scale, horizon, high, low: f"variance {readable(variance_units(high, low, scale))} for horizon {horizon}",
     "S": lambda scale, digits: f"saved, {len(digits) // 2} bytes",
-    "X": lambda scale, code, offset: REFUSALS.get(int(code), "a refusal this tool does not know"),
+    "X": lambda scale, code, offset: REJECTIONS.get(int(code), "a refusal this tool does not know"),
     "N": lambda scale, count: f"{counted(count, 'step')} counted",
 }
 

@@ -83,7 +83,7 @@ def hint(word, scale, line):
     return f"; --scale {scale * wanted} would do" if value.denominator != 1 and wanted else ""
 
 
-def opening(readings, m, place, level, seasonal):
+def opening(readings, m, index, level, seasonal):
     """Level and season values to open with, each None where the user gave it. In the station's units.
 
     Without season the level is the first reading. With one, the first m steps give the level as their mean and each
@@ -92,13 +92,13 @@ def opening(readings, m, place, level, seasonal):
     present = [(k, reading.value) for k, reading in enumerate(readings) if reading.value is not None]
     if not m or seasonal is not None:
         k, first = present[0] if present else (0, Fraction(0))
-        known = seasonal[(place + k) % m] if m and seasonal else 0
+        known = seasonal[(index + k) % m] if m and seasonal else 0
         return (first - known if level is None else None), None
     early = [(k, value) for k, value in present if k < m]
     centre = level
     if level is None:
         centre = sum(value for _, value in early) / len(early) if early else Fraction(0)
-    values = {(place + k) % m: value - centre for k, value in early}
+    values = {(index + k) % m: value - centre for k, value in early}
     return (centre if level is None else None), [values.get(k, Fraction(0)) for k in range(m)]
 
 

@@ -78,19 +78,19 @@ class Description:
             raise Mistake(f"{name} takes {'a place and a number' if letter == 's' else 'one number'}")
         key, field = letter, name
         if letter == "s":
-            key = ("s", self.season_place(name, rest[0]))
+            key = ("s", self.seasonal_index(name, rest[0]))
             field = f"{name} {key[1]}"
         value = nearest(decimal(field, rest[-1]) * self.scale) if name in IN_UNITS else whole(field, rest[-1])
         said = in_words(field, rest[-1], value, " 65,536ths" if name in IN_UNITS else "")
         self.give(key, fitted(letter, value, said), f"{field} {rest[-1]}", source)
 
-    def season_place(self, name, word):
-        place, m = whole(f"{name}'s place", word), self.value("m")
+    def seasonal_index(self, name, word):
+        index, m = whole(f"{name}'s place", word), self.value("m")
         if "m" not in self.given:
             raise Mistake(f"{name} {word}: the model has no season, its line gives no m")
-        if not 0 <= place < m:
+        if not 0 <= index < m:
             raise Mistake(f"{name} {word}: the model's m is {m}, so its places are {f'0 to {m - 1}' if m else 'none'}")
-        return place
+        return index
 
     def value(self, key):
         straight = self.byte & 3 == STRAIGHT
@@ -150,10 +150,10 @@ def hexadecimal(words):
     return bytes.fromhex(digits)
 
 
-def saved_group(words):
+def saved_snapshot(words):
     """A group as an S line has it. One that was cut when it was copied is told here; `bytes` takes anything."""
     data = hexadecimal(words)
-    found = commands.decode_group(data)
+    found = commands.decode_snapshot(data)
     if found is None or found[1] != len(data):
         raise Mistake(f"the {len(data)} bytes after group are not one whole group (bytes takes any)")
     return data
@@ -165,7 +165,7 @@ def command(words, scale):
     if name == "bytes":
         return hexadecimal(words)
     if name == "group":
-        return saved_group(words)
+        return saved_snapshot(words)
     if name not in SINGLE:
         raise Mistake(f"{shown(name)} is not known")
     fields = SINGLE[name].fields
