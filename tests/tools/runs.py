@@ -225,6 +225,14 @@ def full(folder):
         same((ended.status, ended.err), (1, f"{words[0]}: standard output: No space left on device\n"), words)
 
 
+@case("pipes: closed outputs")
+def closed(folder):
+    (folder / "day.txt").write_text(LISTING)
+    for name in ("run", "stream"):
+        same(shell(f"tools/{name} day.txt >&-", folder), (1, b"", f"{name}: standard output is closed\n"))
+        same(shell(f"tools/{name} nosuch.txt 2>&-", folder), (2, b"", ""))
+
+
 @case("time: 65,000 commands in seconds")
 def linear(folder):
     for text in ("model none\n" + "missing\n" * 65000, "model none\n" + "reading 5\n" * 13000):

@@ -51,6 +51,8 @@ def read_text(path):
 
 def write(data):
     """Writes bytes or text to standard output; a failed write must not end in status 0."""
+    if sys.stdout is None:
+        raise Failure("standard output is closed")
     try:
         sys.stdout.buffer.write(data if isinstance(data, bytes) else data.encode())
         sys.stdout.buffer.flush()
@@ -64,16 +66,21 @@ def write(data):
         raise Failure(f"standard output: {e.strerror}") from None
 
 
+def note(message):
+    """A line on standard error. Where that is closed Python has none, and print would take standard output."""
+    if sys.stderr is not None:
+        print(f"{os.path.basename(sys.argv[0])}: {message}", file=sys.stderr, flush=True)
+
+
 def guarded(main):
     """Runs a tool: mistakes and failures become one line on standard error and an exit status."""
-    name = os.path.basename(sys.argv[0])
     try:
         sys.exit(main())
     except Mistake as e:
-        print(f"{name}: {e}", file=sys.stderr)
+        note(e)
         sys.exit(2)
     except Failure as e:
-        print(f"{name}: {e}", file=sys.stderr)
+        note(e)
         sys.exit(e.status)
     except KeyboardInterrupt:
         sys.exit(130)

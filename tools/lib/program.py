@@ -7,16 +7,12 @@ import sys
 from typing import NamedTuple
 
 from lib import commands
-from lib.cli import Failure
+from lib.cli import Failure, note
 
 ROOT = pathlib.Path(__file__).resolve().parents[2]
 BUILT = ROOT / "target/bin/forecast_run"
 STAMP = ROOT / "target/stamp/forecast_run"
 NOT_BUILT = 3  # the exit status where there is no program
-
-
-def note(message):
-    print(f"{os.path.basename(sys.argv[0])}: {message}", file=sys.stderr, flush=True)
 
 
 def is_current():
