@@ -1,0 +1,188 @@
+"""tools/plot: what the picture shows is read back from its axes and held to the second implementation's numbers."""
+
+import math
+import re
+import xml.etree.ElementTree as ElementTree
+
+import forecaster as f
+from harness import ROOT, TOOLS, case, holds, play, same, tool
+
+SVG = "{http://www.w3.org/2000/svg}"
+ROOM = (ROOT / "tools/room.txt").read_text()
+
+
+class Picture:
+    """A picture's elements, with values read from the value axis and steps from the readings."""
+
+    def __init__(self, path):
+        self.root = ElementTree.parse(path).getroot()
+        ticks = [e for e in self.root.iter(SVG + "text") if e.get("class") == "value"]
+        values = [(float(e.get("y")) - 4, float(e.text.replace("\u2212", "-"))) for e in ticks]
+        (y0, v0), (y1, v1) = values[0], values[-1]
+        self.value = lambda y: v0 + (y - y0) * (v1 - v0) / (y1 - y0)
+        self.tolerance = abs(self.value(0.15) - self.value(0))  # coordinates have a tenth of a pixel, the axis too
+
+    def points(self, kind):
+        """The points of the first path of the kind."""
+        path = next((e.get("d") for e in self.root.iter(SVG + "path") if e.get("class") == kind), "")
+        return [(float(x), float(y)) for x, y in re.findall(r"(-?[\d.]+),(-?[\d.]+)", path)]
+
+    def count(self, kind):
+        return sum(e.get("class") == kind for e in self.root.iter())
+
+    def texts(self):
+        return [e.text for e in self.root.iter(SVG + "text")]
+
+    def near(self, kind, expected):
+        found = [self.value(y) for _, y in self.points(kind)]
+        same(len(found), len(expected), f"how many points {kind} has")
+        worst = max(abs(a - b) for a, b in zip(found, expected))
+        holds(worst <= self.tolerance, f"{kind} is {worst} off, where {self.tolerance} is a pixel's share")
+
+
+def second(text_stream):
+    """Readings, levels and residuals of a stream, and the state after it, by the second implementation."""
+    x, at = f.read_group(text_stream)
+    readings, levels, residuals = [], [], []
+    while at < len(text_stream):
+        reading = text_stream[at] == 0x20
+        found, at = f.operands(text_stream, at, lambda c: True)
+        if reading:
+            x, e = f.step(x, *found)
+            residuals.append(e / 65536)
+        else:
+            x = f.missing(x)
+        readings.append(found[0] if reading else None)
+        levels.append(x.l / 65536)
+    return readings, levels, residuals, x
+
+
+def draw(folder, text, *words):
+    (folder / "day.txt").write_text(text)
+    return tool("plot", folder, "day.txt", "day.svg", *words)
+
+
+def check_numbers(folder, text, scale, horizon, *words, sigma2=None):
+    stream = play(folder, text, tool_name="stream").out
+    readings, levels, residuals, x = second(stream)
+    ended = draw(folder, text, "--horizon", str(horizon), *words)
+    same((ended.status, ended.out, ended.err), (0, b"", ""), "status, output and message")
+    picture = Picture(folder / "day.svg")
+    picture.near("readings", [y / scale for y in readings if y is not None])
+    picture.near("level", [level / scale for level in levels])
+    forecasts = [f.forecast(x, h) / 65536 / scale for h in range(1, horizon + 1)]
+    picture.near("forecast", forecasts)
+    sigma2 = sum(e * e for e in residuals) / len(residuals) if sigma2 is None else sigma2
+    spread = [math.sqrt(f.weight(x, h) / 2**32 * sigma2) / scale for h in range(1, horizon + 1)]
+    for many in (1, 2):
+        above = [y + many * d for y, d in zip(forecasts, spread)]
+        below = [y - many * d for y, d in zip(forecasts, spread)]
+        picture.near(f"band{many}", above + below[::-1])
+    return picture, readings
+
+
+@case("plot: season, damped trend and gaps: every number is the second implementation's")
+def room(folder):
+    picture, readings = check_numbers(folder, ROOM, 10, 48)
+    same(picture.count("missing"), 3, "runs of missing readings")
+    xs = [x for x, _ in picture.points("readings")]
+    taken = [k for k, y in enumerate(readings) if y is not None]
+    step = (xs[-1] - xs[0]) / (taken[-1] - taken[0])
+    holds(all(abs(xs[0] + (k - taken[0]) * step - x) < 0.11 for k, x in zip(taken, xs)), "readings stand evenly, gaps left out")
+    holds(abs(picture.points("forecast")[0][0] - xs[0] - len(readings) * step) < 0.11, "the forecast begins a step after the last reading")
+
+
+@case("plot: a straight trend with a given σ²")
+def straight(folder):
+    text = "model straight alpha 0.5 beta 0.1\nlevel -20\nreading -18\nreading -14\nmissing\nreading -19\n"
+    picture, _ = check_numbers(folder, text, 1, 30, "--sigma2", "2.25", sigma2=2.25)
+    holds("residual standard deviation 1.5" in picture.texts(), "the note on σ")
+
+
+@case("plot: no trend, no season")
+def plain(folder):
+    check_numbers(folder, "model none alpha 0.5\nreading 5\nreading 7\nreading 6\n", 1, 512)
+
+
+@case("plot: 15,000 readings, more than one run takes")
+def long(folder):
+    text = "model none alpha 0.1\nlevel 50\n" + "".join(f"reading {k * k % 101}\n" for k in range(15000))
+    picture, _ = check_numbers(folder, text, 1, 24)
+    same(picture.count("missing"), 0, "runs of missing readings")
+
+
+@case("plot: raw bytes and a saved group are drawn as well")
+def raw(folder):
+    group = f.group_bytes(f.State(A=32768, l=5 * 65536)).hex()
+    text = f"group {group}\nscale 10\nreading 0.7\nbytes 20 09 00 00 00\nforecast 1\nsave\n"
+    ended = draw(folder, text)
+    same((ended.status, ended.err), (0, ""), "status and message")
+    Picture(folder / "day.svg").near("readings", [0.7, 0.9])
+
+
+@case("plot: two states, each with a level of its own")
+def two_states(folder):
+    same(draw(folder, "model none\nlevel 5\nmissing\nmissing\nmodel none\nlevel 9\nreading 8\nmissing\n").status, 0, "status")
+    same(Picture(folder / "day.svg").count("level"), 2, "levels")
+
+
+def labels(folder, *words):
+    same(draw(folder, ROOM, *words).status, 0, "status")
+    return Picture(folder / "day.svg").texts()
+
+
+@case("plot: units, title and time on the axes")
+def axes(folder):
+    found = labels(folder, "--start", "2024-02-28 12:00", "--step", "1h", "--unit", "°C", "--title", 'a & <b> "c"', "--last", "40")
+    for label in ("°C", 'a & <b> "c"', "12:00", "00:00", "3 Mar", "4 Mar"):
+        holds(label in found, f"no label {label}: {found}")
+    found = labels(folder, "--start", "2023-12-30", "--step", "1d")
+    for label in ("30 Dec", "2023", "2024"):
+        holds(label in found, f"no label {label}: {found}")
+    holds("hours since the first reading" in labels(folder, "--step", "5m"), "the title of elapsed time")
+    holds("step" in labels(folder), "the title of steps")
+
+
+@case("plot: a state alone, one horizon, and no horizon")
+def small(folder):
+    ended = draw(folder, "model none\nlevel 5\n", "--horizon", "3")
+    same((ended.status, ended.err), (0, "plot: no band: there is no residual to take its σ² from; --sigma2 gives it\n"), "a state alone")
+    same(Picture(folder / "day.svg").count("band1"), 0, "bands")
+    same(draw(folder, "model none\nreading 5\n", "--horizon", "1").status, 0, "one horizon")
+    same(Picture(folder / "day.svg").count("band2"), 1, "bands")
+    same(draw(folder, "model none\nreading 5\n", "--horizon", "0").status, 0, "no horizon")
+    same(Picture(folder / "day.svg").count("forecast"), 0, "forecasts")
+
+
+WRONG = [
+    ("a refused reading", "model none\nreading 5\nreading 1000001\n", [], 1, "day.txt, line 3: the reading is out of range"),
+    ("a refused season", "model none m 2\nplace 2\nreading 5\n", [], 1, "day.txt, line 1: the place is out of range, or the count is above 2^48"),
+    ("a refused forecast", "model none\nreading 5\nforecast 0\n", [], 1, "day.txt, line 3: the horizon is outside 1 to 512"),
+    ("bytes that are no command", "model none\nreading 5\nbytes ff\n", [], 2, "day.txt, line 3: from here on the bytes are no commands"),
+    ("no state", "reading 5\n", [], 2, "day.txt: the first command opens no state"),
+    ("an empty text", "", [], 2, "day.txt: the first command opens no state"),
+    ("nothing to draw", "model none\n", ["--horizon", "0"], 2, "day.txt: there is nothing to draw, neither a reading nor a horizon"),
+    ("a mistake", "model none\nreading x\n", [], 2, "day.txt, line 2: reading x is not a number"),
+    ("a long horizon", "model none\n", ["--horizon", "513"], 2, "--horizon 513 is outside 0 to 512"),
+    ("a step", "model none\n", ["--step", "1y"], 2, "--step 1y is not a time such as 30s, 5m, 1h or 1d"),
+    ("a start", "model none\n", ["--step", "1h", "--start", "noon"], 2, "--start noon is not a time such as 2024-02-05 06:00"),
+    ("a start without a step", "model none\n", ["--start", "2024-02-05"], 2, "--start takes --step beside it"),
+    ("a σ² below 0", "model none\n", ["--sigma2=-1"], 2, "--sigma2 -1 is below 0"),
+]
+
+
+def add(name, text, words, status, message):
+    @case(f"plot: wrong: {name}")
+    def check(folder):
+        same(draw(folder, text, *words), (status, b"", f"plot: {message}\n"))
+        holds(not (folder / "day.svg").exists(), "a picture was written")
+
+
+for row in WRONG:
+    add(*row)
+
+
+@case("plot: a picture that can't be written")
+def not_written(folder):
+    ended = tool("plot", folder, TOOLS / "room.txt", "nosuch/day.svg")
+    same(ended, (1, b"", "plot: nosuch/day.svg: No such file or directory\n"))

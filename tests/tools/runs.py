@@ -1,0 +1,253 @@
+"""tools/run and tools/stream --explain: each line beside its text, exit status, pipes, time."""
+
+import os
+import signal
+import time
+
+import forecaster as f
+from harness import TOOLS, case, environment, holds, play, same, shell, started, tool
+
+LISTING = "model none alpha 0.5\nreading 10\nforecast 2\nvariance 2 4\n"
+RANGE = "a level, trend or season value is out of range, or not 0 where the model has none"
+
+
+def table(*rows):
+    """Rows of number, text, line and meaning as the tool shows them; a word alone is said after an X."""
+    layout = lambda row: f"       {row}" if isinstance(row, str) else "{:>5}  {:40}  {:40}  {}".format(*row).rstrip()
+    return "".join(layout(row) + "\n" for row in rows)
+
+
+OPENED = "state opened: model 0, season length 0"
+SHOWN = [
+    (
+        "the scale of each line beside raw bytes",
+        "model none alpha 0.5\nreading 5\nbytes 21\nscale 100\nforecast 1\n",
+        0,
+        table(
+            (1, "model none alpha 0.5", "O 0 0", OPENED),
+            (2, "reading 5", "E 327680", "residual 5"),
+            (3, "bytes 21", "M", "missing reading taken"),
+            (5, "forecast 1", "F 1 163840", "forecast 0.025 for horizon 1"),
+            ("", "", "N 2", "2 steps counted"),
+        ),
+    ),
+    (
+        "several commands of one bytes line, and one command of two lines",
+        "model none alpha 0.5\nscale 10\nbytes 2005000000 21 2006\nbytes 000000 21\nmissing\n",
+        0,
+        table(
+            (1, "model none alpha 0.5", "O 0 0", OPENED),
+            (3, "bytes 2005000000 21 2006", "E 327680", "residual 0.5"),
+            (3, "bytes 2005000000 21 2006", "M", "missing reading taken"),
+            (3, "bytes 2005000000 21 2006", "E 229376", "residual 0.35"),
+            (4, "bytes 000000 21", "M", "missing reading taken"),
+            (5, "missing", "M", "missing reading taken"),
+            ("", "", "N 5", "5 steps counted"),
+        ),
+    ),
+    ("an empty text", "", 0, table(("", "", "N 0", "0 steps counted"))),
+    (
+        "m 49 is the program's to refuse",
+        "model none m 49\nreading 4\n\nmissing\n",
+        1,
+        table((1, "model none m 49", "X 6 0", "the season length is not one the model allows"), "lines 2 to 4 were not played"),
+    ),
+    (
+        "a refused season line",
+        "model none m 4\nseason 0 1\nseason 1 1\nseason 2 1e8\nseason 3 1\nreading 4\n",
+        1,
+        table((4, "season 2 1e8", "X 9 56", RANGE), "lines 5 to 6 were not played"),
+    ),
+    (
+        "a refused season that stands before the level",
+        "model none m 2\nseason 1 1e8\nlevel 4\nmissing\n",
+        1,
+        table((2, "season 1 1e8", "X 9 46", RANGE), "line 4 was not played"),
+    ),
+    ("a refused level", "model none\nlevel 1e9\n", 1, table((2, "level 1e9", "X 9 19", RANGE))),
+    (
+        "a command of two lines",
+        "model none\ntrend 4\nlevel 1\nmissing\n",
+        1,
+        table((2, "trend 4; level 1", "X 9 19", RANGE), "line 4 was not played"),
+    ),
+    ("a refused place", "model none m 2\nplace 2\n", 1, table((2, "place 2", "X 10 56", "the place is out of range, or the count is above 2^48"))),
+    (
+        "a number that no line gave",
+        "model damped\nlevel 4\n",
+        1,
+        table((1, "model damped", "X 7 0", "a parameter is not one the model allows"), "line 2 was not played"),
+    ),
+    (
+        "a refused reading",
+        "model none\nreading 1000001\n# a comment\nforecast 1\n",
+        1,
+        table((1, "model none", "O 0 0", OPENED), (2, "reading 1000001", "X 13 46", "the reading is out of range"), "line 4 was not played"),
+    ),
+    (
+        "a cut command",
+        "model none\nbytes 20 05\n",
+        1,
+        table(
+            (1, "model none", "O 0 0", OPENED),
+            (2, "bytes 20 05", "X 4 46", "the bytes end inside a command or before a group is finished"),
+        ),
+    ),
+    (
+        "a group that ends between two commands names no line",
+        "bytes " + f.encode(0x10, 0, 0, 0, 0, 0, 0).hex() + "\n",
+        1,
+        table(("", "", "X 4 19", "the bytes end inside a command or before a group is finished")),
+    ),
+    (
+        "a large residual",
+        "model none\nlevel -16777215.5\nreading 1000000\n",
+        0,
+        table(
+            (1, "model none", "O 0 0", OPENED),
+            (3, "reading 1000000", "E 1165047595008", "residual 17777215.5"),
+            ("", "", "N 1", "1 step counted"),
+        ),
+    ),
+]
+
+
+def add(name, text, status, expected):
+    @case(f"shown: {name}")
+    def check(folder):
+        ended = play(folder, text)
+        same(ended.text, expected)
+        same((ended.status, ended.err), (status, ""), "status and message")
+
+
+for row in SHOWN:
+    add(*row)
+
+
+@case("shown: tools/stream --explain shows what tools/run shows")
+def explain(folder):
+    for _, text, status, expected in SHOWN[::4]:
+        (folder / "day.txt").write_text(text)
+        command = 'tools/stream day.txt > day.bin && "$FORECAST_RUN" < day.bin | tools/stream --explain day.txt'
+        same(shell(command, folder)[:2], (status, expected.encode()))
+
+
+@case("shown: lines of another text are told")
+def other_lines(folder):
+    (folder / "day.txt").write_text("model none\nmissing\n")
+    ended = tool("stream", folder, "--explain", "day.txt", stdin=b"O 0 0\nE 5\nN 1\n")
+    same(ended, (1, b"", "stream: the line E 5 does not belong to this text\n"))
+
+
+@case("shown: 65,536 bytes are played, 65,537 name no line")
+def limit(folder):
+    text = "model none\n" + "missing\n" * (65536 - 46)
+    ended = play(folder, text)
+    same((ended.status, ended.text.splitlines()[-1].split()[:2]), (0, ["N", "65490"]), "status and last line")
+    ended = play(folder, text + "missing\n")
+    row = ("", "", "X 1 0", "the input is longer than 65,536 bytes")
+    same((ended.status, ended.text), (1, table(row, "nothing was played: the stream has 65,537 bytes")))
+
+
+@case("shown: a saved group whole, and played on")
+def saved(folder):
+    text = "model none m 48 alpha 0.5 gamma 0.5\nreading 10\nsave\n"
+    whole = play(folder, text, "--full").text.splitlines()[2]
+    group = whole.split("S ")[1].split()[0]
+    same(len(group), 2 * 526, "the group's digits")
+    holds(play(folder, text).text.splitlines()[2].endswith("...  saved, 526 bytes"), "without --full the line is cut")
+    ended = play(folder, f"group {group}\nscale 10\nreading 10\n")
+    expected = f.play(bytes.fromhex(group) + f.encode(0x20, 100))[0]
+    same([line[49:].split("  ")[0] for line in ended.text.splitlines()], expected, "the lines")
+    holds(ended.text.splitlines()[1].startswith("    3  reading 10 "), "the reading stands beside its line")
+
+
+@case("shown: the example of tools/run without words")
+def example(folder):
+    same(tool("run", folder), tool("run", folder, TOOLS / "example.txt"))
+    same((tool("run", folder).status, len(tool("run", folder).text.splitlines())), (0, 10), "status and lines")
+
+
+@case("shown: bytes of standard input")
+def raw(folder):
+    for stream, status in ((f.encode(0x21), 1), (b"", 0), (f.group_bytes(f.State(A=32768)) + f.encode(0x20, 10), 0)):
+        same(tool("run", folder, "-", stdin=stream), (status, f.output(stream), ""))
+
+
+@case("status: a program whose output is cut off")
+def cut_off(folder):
+    program = folder / "cut"
+    program.write_text("#!/bin/sh\ncat > /dev/null\necho O 0 0\n")
+    program.chmod(0o755)
+    (folder / "day.txt").write_text("model none\nmissing\n")
+    ended = tool("run", folder, "day.txt", env=environment(FORECAST_RUN=str(program)))
+    row = (1, "model none", "O 0 0", OPENED)
+    same(ended, (1, table(row, "the program's output ends without its last line, N or X").encode(), ""))
+    ended = tool("run", folder, "-", env=environment(FORECAST_RUN=str(program)))
+    same(ended, (1, b"O 0 0\n", ""))
+
+
+@case("status: a program that is not there")
+def no_program(folder):
+    (folder / "day.txt").write_text("model none\n")
+    ended = tool("run", folder, "day.txt", env=environment(FORECAST_RUN="/nonexistent/program"))
+    same(ended, (3, b"", "run: /nonexistent/program: No such file or directory\n"))
+
+
+@case("pipes: a text from <(..) and from /dev/stdin")
+def from_pipes(folder):
+    expected = play(folder, LISTING)
+    same(expected.status, 0, "status")
+    for command in ("tools/run <(cat day.txt)", "cat day.txt | tools/run /dev/stdin", "tools/run /dev/stdin < day.txt"):
+        same(shell(command, folder), expected, command)
+
+
+@case("pipes: a reader that went away")
+def closed_pipe(folder):
+    (folder / "day.txt").write_text(LISTING)
+    (folder / "many.txt").write_text("model none\n" + "missing\n" * 20000)
+    for words in (["run", "day.txt"], ["run", "many.txt"], ["stream", "many.txt"], ["series", "/dev/stdin"]):
+        read, write = os.pipe()
+        os.close(read)
+        ended = tool(words[0], folder, words[1], stdout=write, stdin=b"5\n")
+        os.close(write)
+        same((ended.status, ended.err), (-signal.SIGPIPE, ""), f"{words}: status and message")
+    ended = shell("tools/run many.txt | head -1", folder)
+    same((ended.status, ended.text, ended.err), (0, table((1, "model none", "O 0 0", OPENED)), ""))
+
+
+@case("pipes: a full disk")
+def full(folder):
+    (folder / "day.txt").write_text(LISTING)
+    for words in (["run", "day.txt"], ["stream", "day.txt"], ["run", "-"], ["series", "/dev/stdin"]):
+        with open("/dev/full", "wb") as device:
+            ended = tool(*[words[0], folder, words[1]], stdout=device)
+        same((ended.status, ended.err), (1, f"{words[0]}: standard output: No space left on device\n"), words)
+
+
+@case("pipes: closed outputs")
+def closed(folder):
+    (folder / "day.txt").write_text(LISTING)
+    for name in ("run", "stream"):
+        same(shell(f"tools/{name} day.txt >&-", folder), (1, b"", f"{name}: standard output is closed\n"))
+        same(shell(f"tools/{name} nosuch.txt 2>&-", folder), (2, b"", ""))
+
+
+@case("time: 65,000 commands in seconds")
+def linear(folder):
+    for text in ("model none\n" + "missing\n" * 65000, "model none\n" + "reading 5\n" * 13000):
+        began = time.monotonic()
+        ended = play(folder, text)
+        took = time.monotonic() - began
+        same((ended.status, len(ended.out.splitlines())), (0, len(text.splitlines()) + 1), "status and lines")
+        holds(took < 20, f"{len(text.splitlines())} lines took {took:.1f} s")
+
+
+@case("text: a place of its own, without the tests")
+def alone(folder):
+    started(["cp", "-r", TOOLS, folder / "tools"], folder)
+    (folder / "day.txt").write_text(LISTING)
+    for words in (["run", "day.txt"], ["series", "--text", "/dev/stdin"], ["plot", "day.txt", "day.svg"]):
+        ended = started([folder / "tools" / words[0], *words[1:]], folder, stdin=b"5\n")
+        same((ended.status, ended.err), (0, ""), f"{words}: status and message")
+    holds(not list((folder / "tools").rglob("__pycache__")), "a tool left compiled files")
