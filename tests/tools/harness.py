@@ -57,7 +57,7 @@ def environment(**changes):
     return {name: value for name, value in chosen.items() if value is not None}
 
 
-def started(words, folder, env=None, stdin=b"", stdout=subprocess.PIPE, timeout=30):
+def started(words, folder, env=None, stdin=b"", stdout=subprocess.PIPE, timeout=120):
     how = {"cwd": folder, "env": env or environment(), "input": stdin, "stdout": stdout, "timeout": timeout}
     ended = subprocess.run([str(word) for word in words], stderr=subprocess.PIPE, **how)
     return Ended(ended.returncode, ended.stdout or b"", ended.stderr.decode())

@@ -240,7 +240,7 @@ def linear(folder):
         ended = play(folder, text)
         took = time.monotonic() - began
         same((ended.status, len(ended.out.splitlines())), (0, len(text.splitlines()) + 1), "status and lines")
-        holds(took < 20, f"{len(text.splitlines())} lines took {took:.1f} s")
+        holds(took < 60, f"{len(text.splitlines())} lines took {took:.1f} s")
 
 
 @case("text: a place of its own, without the tests")
