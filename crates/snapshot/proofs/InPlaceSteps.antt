@@ -29,7 +29,7 @@ use Rattle.snapshot.specs.Bytes.{AreBytes}
 use Rattle.snapshot.specs.Layout.{periodIn, seasonIn, indexIn, countIn, modelBytes}
 use Rattle.snapshot.specs.Snapshots.{openCode, openOffset, cellsAt, decoded, encoded}
 use Rattle.snapshot.specs.InPlace.{inPlaceCode, rejection, bytesAfter, numberAfter}
-use Rattle.snapshot.specs.Facts.{Room, numbersIn, aheadIn, Held, movedOn, seasonPut, stored}
+use Rattle.snapshot.specs.Facts.{Room, numbersIn, aheadIn, Held, Found, movedOn, seasonPut, stored}
 use Rattle.snapshot.specs.declared.in_place.Checked.{Checked}
 use Rattle.snapshot.proofs.Accepting.{accepted, accepted-room}
 use Rattle.snapshot.proofs.RoundTrip.{length-model, cell-read, cell-none, accepted-passes, length-decoded, whole}
@@ -197,22 +197,20 @@ module _ (d : List ℕ) (x : Checked) (h : Held d x) where
   unfolding missingCode
   free-is n = rw (h .passes, ne-eqb (decoded d .count) maxCount (λ e. n (count-is ∙ e)))
 
--- ---- a call by its rejection: before the state is looked at, and past that
-module _ (code : State → ℕ) (d : List ℕ) where
-  pub before : (inPlaceCode d ≡ 0 → ⊥) → rejection code d ≡ inPlaceCode d
-  before n = rw (ne-eqb (inPlaceCode d) 0 n)
+-- ---- a call by its rejection: that of the slice, that of the state, or none
+module _ (d : List ℕ) (x : Checked) (f : Found d x) where
+  pub holds : x .code ≡ 0 → Held d x
+  holds z = f .held (sym (f .code) ∙ z)
 
-  pub past : inPlaceCode d ≡ 0 → rejection code d ≡ code (decoded d)
-  past z = rw z
+  pub unopened : (code : State → ℕ) → (x .code ≡ 0 → ⊥) → x .code ≡ rejection code d
+  unopened code n = f .code ∙ sym (rw (ne-eqb (inPlaceCode d) 0 (λ z. n (f .code ∙ z))))
 
-  pub bytes-rejected : (next : State → State) (n : ℕ) → rejection code d ≡ n → (n ≡ 0 → ⊥) → d ≡ bytesAfter code next d
-  bytes-rejected next n e h = rw (e, ne-eqb n 0 h)
+  pub opened : (code : State → ℕ) → x .code ≡ 0 → (n : ℕ) → n ≡ code (decoded d) → n ≡ rejection code d
+  opened code z n e = rw (sym (f .code) ∙ z) e
 
-  pub number-rejected : (value : State → ℤ) (old : ℤ) (n : ℕ) → rejection code d ≡ n → (n ≡ 0 → ⊥) → old ≡ numberAfter code value d old
-  number-rejected value old n e h = rw (e, ne-eqb n 0 h)
+module _ (code : State → ℕ) (next : State → State) (value : State → ℤ) (d : List ℕ) (old : ℤ) where
+  pub rejected : (n : ℕ) → n ≡ rejection code d → (n ≡ 0 → ⊥) → (d ≡ bytesAfter code next d) × (old ≡ numberAfter code value d old)
+  rejected n e h = rw (← e, ne-eqb n 0 h) (refl, refl)
 
-  pub bytes-accepted : (next : State → State) → rejection code d ≡ 0 → bytesAfter code next d ≡ encoded (next (decoded d))
-  bytes-accepted next e = rw e
-
-  pub number-accepted : (value : State → ℤ) (old : ℤ) → rejection code d ≡ 0 → numberAfter code value d old ≡ value (decoded d)
-  number-accepted value old e = rw e
+  pub accepted-call : 0 ≡ rejection code d → (encoded (next (decoded d)) ≡ bytesAfter code next d) × (value (decoded d) ≡ numberAfter code value d old)
+  accepted-call e = rw (← e) (refl, refl)

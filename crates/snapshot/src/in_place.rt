@@ -28,11 +28,11 @@ ghost use Rattle.snapshot.specs.InPlace.{inPlaceStepCode, inPlaceStepByt
 ghost use Rattle.snapshot.specs.Facts.{Room, Found, movedOn, seasonPut, stored};
 
 // What a call goes by: the slice's rejection or 0, and then the numbers of its snapshot, the season value being the one due.
-pub struct Checked {
-    pub code: u8,
-    pub period: u8,
-    pub index: u8,
-    pub numbers: Numbers,
+struct Checked {
+    code: u8,
+    period: u8,
+    index: u8,
+    numbers: Numbers,
 }
 
 // The snapshot's own rejection; then 3 for any byte after it.
