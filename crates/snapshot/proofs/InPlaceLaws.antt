@@ -10,7 +10,7 @@ use lib.ListN.{length, length-set, set}
 use Rattle.state.specs.Models.{hasSeason}
 use Rattle.state.specs.States.{check}
 use Rattle.state.specs.declared.State.{State}
-use Rattle.ets.specs.Steps.{stepCode, missingCode, residualOf, afterReading, afterMissing, newSeason, newSeasonal, step, missing}
+use Rattle.ets.specs.Steps.{termsOf, stepCode, missingCode, residualOf, afterReading, afterMissing, newSeason, newSeasonal, step, missing}
 use Rattle.ets.specs.Forecasts.{forecastCode, forecastOf}
 use Rattle.ets.proofs.Kept.{reading-kept, missing-kept}
 use Rattle.snapshot.specs.Answers.{accepting}
@@ -55,8 +55,8 @@ length-next : (s : State) (e : ℤ) → length (newSeasonal s e) ≡ length (s .
 unfolding newSeasonal
 length-next s e = go (hasSeason (s .model))
   where
-    go : (t : Bool) → length (cond t (set (s .seasonal) (s .index) (newSeason s e)) (s .seasonal)) ≡ length (s .seasonal)
-    go true = length-set (s .seasonal) (s .index) (newSeason s e)
+    go : (t : Bool) → length (cond t (set (s .seasonal) (s .index) (newSeason (termsOf s) e)) (s .seasonal)) ≡ length (s .seasonal)
+    go true = length-set (s .seasonal) (s .index) (newSeason (termsOf s) e)
     go false = refl
 
 step-direct : (s : State) → length (s .seasonal) ≡ 48 → check s ≡ 0 → (y : ℤ) → StepInPlace s y

@@ -18,12 +18,13 @@ use Rattle.state.specs.States.{check, indexOk, countOk}
 use Rattle.state.specs.declared.State.{State}
 use Rattle.state.proofs.Passing.{bounded, no-season, with-season}
 use Rattle.state.proofs.Tests.{both, then-zero, unless-zero}
-use Rattle.ets.specs.Steps.{residualOf, newLevel, newTrend, newSeason, newSeasonal, nextIndex, afterReading, afterMissing, corrected, stepCode, missingCode}
+use Rattle.ets.specs.Steps.{termsOf, residualOf, newLevel, newTrend, newSeason, newSeasonal, nextIndex, afterReading, afterMissing, corrected, stepCode, missingCode}
 use Rattle.ets.specs.Forecasts.{seasonAt as seasonAhead, forecastCode, forecastOf}
-use Rattle.ets.specs.Updates.{numbersOf, updateOf}
+use Rattle.ets.specs.Updates.{numbersOf, corrections, update}
 use Rattle.ets.specs.declared.Numbers.{Numbers}
 use Rattle.ets.specs.declared.Update.{Update}
-use Rattle.ets.proofs.UpdateLaws.{update-code, update-is, step-room}
+use Rattle.ets.proofs.StepLaws.{step-facts}
+use Rattle.ets.proofs.UpdateLaws.{update-code, update-is}
 use Rattle.snapshot.specs.Answers.{accepting}
 use Rattle.snapshot.specs.Bytes.{AreBytes}
 use Rattle.snapshot.specs.Layout.{periodIn, seasonIn, indexIn, countIn, modelBytes}
@@ -129,15 +130,15 @@ module _ (s : State) (ok : check s ≡ 0) (full : length (s .seasonal) ≡ 48) w
           rw (ne-eqb (s .period) 0 (λ z. omega arith)) (season-written head head-length l b (s .seasonal) (s .period) (s .index) (s .count) (s .index) v (w .index) (omega (arith, bounded s ok .index)))
       go false h = rw (eq-eqb (s .period) 0 (no-season s ok h .period))
 
-  seasons-are : (e : ℤ) → cond (hasSeason (s .model)) (set (s .seasonal) (s .index) (newSeason s e)) (s .seasonal) ≡ newSeasonal s e
+  seasons-are : (e : ℤ) → cond (hasSeason (s .model)) (set (s .seasonal) (s .index) (newSeason (termsOf s) e)) (s .seasonal) ≡ newSeasonal s e
   unfolding newSeasonal
   seasons-are e = refl
 
-  pub step-written : (e : ℤ) (u : Update) → u .level ≡ newLevel s e → u .trend ≡ newTrend s e → u .season ≡ newSeason s e → stored (encoded s) (s .period) (s .index) (s .count) u ≡ encoded (corrected s e)
+  pub step-written : (e : ℤ) (u : Update) → u .level ≡ newLevel (termsOf s) e → u .trend ≡ newTrend (termsOf s) e → u .season ≡ newSeason (termsOf s) e → stored (encoded s) (s .period) (s .index) (s .count) u ≡ encoded (corrected s e)
   step-written e u el eb es =
       let p = nextIndex (s .period) (s .index) in
-      rw (el, eb, es, encoded-is s, encoded-is (corrected s e), level-written head head-length (s .level) (s .trend) (s .seasonal) (s .period) (s .index) (s .count) (newLevel s e) (newTrend s e), season-put (newLevel s e) (newTrend s e) (newSeason s e), seasons-are e)
-      (position-written head head-length (newLevel s e) (newTrend s e) (newSeasonal s e) (s .period) (s .index) (s .count) p (s .count + 1))
+      rw (el, eb, es, encoded-is s, encoded-is (corrected s e), level-written head head-length (s .level) (s .trend) (s .seasonal) (s .period) (s .index) (s .count) (newLevel (termsOf s) e) (newTrend (termsOf s) e), season-put (newLevel (termsOf s) e) (newTrend (termsOf s) e) (newSeason (termsOf s) e), seasons-are e)
+      (position-written head head-length (newLevel (termsOf s) e) (newTrend (termsOf s) e) (newSeasonal s e) (s .period) (s .index) (s .count) p (s .count + 1))
 
   pub missing-written : movedOn (encoded s) (s .period) (s .index) (s .count) ≡ encoded (afterMissing s)
   missing-written =
@@ -146,17 +147,18 @@ module _ (s : State) (ok : check s ≡ 0) (full : length (s .seasonal) ≡ 48) w
 
 -- ---- the update on the numbers of a state that passes is the step
 pub record Direct (s : State) (y : ℤ) (u : Update) : Type 0 where
-  pub level : u .level ≡ newLevel s (residualOf s y)
-  pub trend : u .trend ≡ newTrend s (residualOf s y)
-  pub season : u .season ≡ newSeason s (residualOf s y)
+  pub level : u .level ≡ newLevel (termsOf s) (residualOf s y)
+  pub trend : u .trend ≡ newTrend (termsOf s) (residualOf s y)
+  pub season : u .season ≡ newSeason (termsOf s) (residualOf s y)
   pub residual : u .residual ≡ residualOf s y
   pub count : s .count < maxCount
 
 module _ (s : State) (ok : check s ≡ 0) (y : ℤ) where
-  pub direct-code : updateOf (numbersOf s) y .code ≡ stepCode s y
+  pub direct-code : update (numbersOf s) y .code ≡ stepCode s y
   direct-code = update-code s ok y
 
-  pub direct : stepCode s y ≡ 0 → Direct s y (updateOf (numbersOf s) y)
+  pub direct : stepCode s y ≡ 0 → Direct s y (update (numbersOf s) y)
+  unfolding corrections
   direct z =
       let u = update-is s ok y z in
       record {
@@ -164,7 +166,7 @@ module _ (s : State) (ok : check s ≡ 0) (y : ℤ) where
         trend = ap (λ (v : Update). v .trend) u;
         season = ap (λ (v : Update). v .season) u;
         residual = ap (λ (v : Update). v .residual) u;
-        count = step-room s y z;
+        count = step-facts s y z .room;
       }
 
 -- ---- so what a call stored, by the numbers that it goes by, is the snapshot of the next state
@@ -175,7 +177,7 @@ module _ (d : List ℕ) (x : Checked) (h : Held d x) where
   pub room-is : Room d (x .period) (x .index)
   room-is = rw (h .period, h .index) (h .room)
 
-  pub step-stored : (y : ℤ) (u : Update) → u ≡ updateOf (numbersOf (decoded d)) y → stepCode (decoded d) y ≡ 0 → stored d (x .period) (x .index) (x .numbers .count) u ≡ encoded (afterReading (decoded d) y)
+  pub step-stored : (y : ℤ) (u : Update) → u ≡ update (numbersOf (decoded d)) y → stepCode (decoded d) y ≡ 0 → stored d (x .period) (x .index) (x .numbers .count) u ≡ encoded (afterReading (decoded d) y)
   step-stored y u e z =
       let s = decoded d in
       let k = direct s (h .passes) y z in

@@ -16,14 +16,15 @@ use mir.Val.{SFits, ofZ}
 use Rattle.integers.specs.Bounds.{Within}
 use Rattle.integers.proofs.Bounds.{within-fits}
 use Rattle.state.specs.Fixed.{inRange, isZero}
-use Rattle.state.specs.Models.{trendOf, seasonOf, validModel}
+use Rattle.state.specs.Models.{validModel}
 use Rattle.state.specs.States.{check, cellOk}
 use Rattle.state.specs.declared.State.{State}
-use Rattle.state.proofs.Tests.{both, model-law, allBelow-at, allBelow-all, zero-is}
-use Rattle.state.proofs.Passing.{Passed, passed, passes, Bounded, bounded}
+use Rattle.state.proofs.Tests.{both, model-again, allBelow-at, allBelow-all, zero-is}
+use Rattle.state.specs.Valid.{Bounded}
+use Rattle.state.proofs.Passing.{Passed, passed, passes, bounded}
 use Rattle.snapshot.specs.Bytes.{AreBytes, toBytes, signedBytes, unsignedAt}
 use Rattle.snapshot.specs.CommandTable.{modelLength, levelLength, seasonLength, positionLength}
-use Rattle.snapshot.specs.Layout.{modelAt, levelAt, seasonAt, positionAt, sizeOf, modelIn, periodIn, alphaIn, betaIn, gammaIn, phiIn, levelIn, trendIn, placeIn, seasonIn, indexIn, countIn, modelByte, modelBytes, levelBytes, seasonBytes, seasonsBytes, positionBytes}
+use Rattle.snapshot.specs.Layout.{modelAt, levelAt, seasonAt, positionAt, sizeOf, modelIn, periodIn, alphaIn, betaIn, gammaIn, phiIn, levelIn, trendIn, placeIn, seasonIn, indexIn, countIn, modelBytes, levelBytes, seasonBytes, seasonsBytes, positionBytes}
 use Rattle.snapshot.specs.Snapshots.{openCode, openOffset, cellsAt, decoded, encoded, save, saveCode, savedBytes, read, restOf}
 use Rattle.snapshot.specs.Promises.{ReadsSaved, SavesRead}
 use Rattle.snapshot.specs.declared.reading.Scanned.{Scanned}
@@ -81,12 +82,6 @@ season-at cells (suc n) k u l =
     (λ (q : k ≡ n). (u, rw (q, append-assoc A B u) (drop-at A (B ++ u) (seasonLength * n) (length-seasons cells n))))
     (λ lt. rw (append-assoc A B u) (season-at cells n k (B ++ u) lt))
     (eq-or-lt-of-le (le-of-suc-le-suc l))
-
--- the model byte, taken apart and put together again
-model-again : (b : ℕ) → validModel b ≡ true → modelByte (trendOf b) (seasonOf b) ≡ b
-model-again b h =
-    let e = eqb-true (b / 8) 0 (both (eqb (b / 8) 0) (not (eqb (b % 4) 3)) (model-law b ∙ h) .0) in
-    omega arith
 
 -- a value in range has 64 bits
 pub fits : {v : ℤ} → Within 1099511627776 v → SFits w64 v

@@ -4,7 +4,7 @@ use Prim.Native.Nat.{ℕ, zero, suc, _+_, _*_}
 use mathlib.Core.List.{List, [], _∷_, _++_}
 use lib.IntN.{ℤ, pos}
 use lib.ListN.{getD}
-use Rattle.state.specs.Models.{trendOf, seasonOf}
+use Rattle.state.specs.Models.{modelByte}
 use Rattle.snapshot.specs.Bytes.{unsignedAt, signedAt, toBytes, signedBytes}
 use Rattle.snapshot.specs.CommandTable.{modelLength, levelLength, seasonLength, positionLength}
 
@@ -67,15 +67,11 @@ abbrev pub countIn : List ℕ → ℕ → ℕ
 countIn s m = unsignedAt s (positionAt m + 2) 8
 
 -- ---- their bytes
--- the model byte put together from its parts
-abbrev pub modelByte : ℕ → ℕ → ℕ
-modelByte trend season = season * 4 + trend
-
 abbrev pub parameterBytes : ℕ → ℕ → ℕ → ℕ → List ℕ
 parameterBytes A B G F = toBytes 4 A ++ (toBytes 4 B ++ (toBytes 4 G ++ toBytes 4 F))
 
 unfoldable pub modelBytes : ℕ → ℕ → ℕ → ℕ → ℕ → ℕ → List ℕ
-modelBytes model m A B G F = 0x10 ∷ modelByte (trendOf model) (seasonOf model) ∷ m ∷ parameterBytes A B G F
+modelBytes model m A B G F = 0x10 ∷ modelByte model ∷ m ∷ parameterBytes A B G F
 
 unfoldable pub levelBytes : ℤ → ℤ → List ℕ
 levelBytes l b = 0x11 ∷ (signedBytes l ++ signedBytes b)

@@ -14,23 +14,14 @@ use super::layout::PHI_AT;
 use super::layout::TREND_VALUE_AT;
 use super::layout::season_at;
 use state::State;
-use state::models::season_of;
-use state::models::trend_of;
+use state::models::model_byte;
 ghost use mathlib.Core.Path.{_≡_};
 ghost use Prim.Native.Nat.{_+_, _≤_, _<_};
 ghost use lib.ListN.{length};
 ghost use lib.Seq.{sets};
 ghost use Rattle.snapshot.specs.CommandTable.{modelLength, levelLength, seasonLength, positionLength};
-ghost use Rattle.snapshot.specs.Layout.{modelAt, levelAt, seasonAt, sizeOf, modelByte, parameterBytes, modelBytes, levelBytes, seasonBytes, seasonsBytes, positionBytes};
+ghost use Rattle.snapshot.specs.Layout.{modelAt, levelAt, seasonAt, sizeOf, parameterBytes, modelBytes, levelBytes, seasonBytes, seasonsBytes, positionBytes};
 ghost use Rattle.snapshot.specs.Snapshots.{encoded};
-
-// The model byte put together from its parts.
-fn model_byte(trend: u8, season: u8) -> u8
-    requires { ⌜ (trend < 4) × (season < 2) ⌝ }
-    ensures { λ r. ⌜ r ≡ modelByte trend season ⌝ }
-{
-    trend | (season << 2)
-}
 
 fn write_parameters(d: &mut [u8], alpha: u32, beta: u32, gamma: u32, phi: u32)
     requires { ⌜ modelLength ≤ length (now d) ⌝ }
@@ -46,7 +37,7 @@ fn write_model(d: &mut [u8], model: u8, period: u8, alpha: u32, beta: u32, gamma
     requires { ⌜ modelLength ≤ length (now d) ⌝ }
     ensures { λ _. ⌜ now (d .exit) ≡ sets (now (d .entry)) modelAt (modelBytes model period alpha beta gamma phi) ⌝ }
 {
-    let byte = model_byte(trend_of(model), season_of(model));
+    let byte = model_byte(model);
     write_byte(d, MODEL_AT, 0x10);
     write_byte(d, MODEL_BYTE_AT, byte);
     write_byte(d, PERIOD_AT, period);

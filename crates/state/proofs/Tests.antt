@@ -3,7 +3,7 @@ use Prim.Native.Nat.{ℕ, zero, suc, _+_, _-_, _*_, _/_, _%_, _^_, _<_, _≤_}
 use mathlib.Core.Path.{_≡_, refl, ap, sym, subst}
 use mathlib.Core.Logic.{⊎-elim}
 use mathlib.Core.Bool.{Bool, true, false, not, cond, _&&_, _||_, false≢true}
-use native.Mathlib.Decide.{ℕ-discrete}
+use native.Mathlib.Decide.{ℕ-discrete, decLe}
 use native.Mathlib.Omega.{arith}
 use native.Mathlib.Nat.{le-of-suc-le-suc, eq-or-lt-of-le, not-suc-le-zero}
 use native.Mathlib.Numerals.{add-one}
@@ -118,9 +118,17 @@ pub model-law : (b : ℕ) → b < 256 → (eqb (b / 8) 0 && not (eqb (b % 4) 3))
 unfolding model-test
 model-law b h = same-is _ _ (both _ _ (model-at b h) .0)
 
+valid-small : (b : ℕ) → validModel b ≡ true → b < 256
+valid-small b v = go (decLe 256 b)
+  where
+    go : Dec (256 ≤ b) → b < 256
+    go (yes h) =
+        absurd (false≢true (rw (ne-eqb b 0 (λ e. omega arith), ne-eqb b 1 (λ e. omega arith), ne-eqb b 2 (λ e. omega arith), ne-eqb b 4 (λ e. omega arith), ne-eqb b 5 (λ e. omega arith), ne-eqb b 6 (λ e. omega arith)) at v))
+    go (no h) = omega arith
+
 -- taken apart and put together again
-pub model-again : (b : ℕ) → b < 256 → validModel b ≡ true → modelByte b ≡ b
+pub model-again : (b : ℕ) → validModel b ≡ true → modelByte b ≡ b
 unfolding model-test
-model-again b h v =
-    let t = both (same (eqb (b / 8) 0 && not (eqb (b % 4) 3)) (validModel b)) (not (validModel b) || eqb (modelByte b) b) (model-at b h) in
+model-again b v =
+    let t = both (same (eqb (b / 8) 0 && not (eqb (b % 4) 3)) (validModel b)) (not (validModel b) || eqb (modelByte b) b) (model-at b (valid-small b v)) in
     eqb-true (modelByte b) b (rw v at (t .1))

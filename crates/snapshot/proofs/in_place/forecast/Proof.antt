@@ -73,7 +73,7 @@ module _ (c : tie.After-forecast-from) where
 
   value-is : forecastCode s (h o) ≡ 0 → trendLine (s .level) (s .phi) (s .trend) (h o) +ℤ v ≡ forecastOf s (h o)
   unfolding forecastOf
-  value-is e = rw (ahead-is (d o) opens (h o) (forecast-ready s (h o) e .1))
+  value-is e = rw (ahead-is (d o) opens (h o) (forecast-ready 512 s (h o) e .least))
 
   told : (n : ℕ) → forecastFromCode (s .level) (s .phi) (s .trend) v (h o) ≡ n → n ≡ inPlaceForecastCode (d o) (h o)
   unfolding inPlaceForecastCode

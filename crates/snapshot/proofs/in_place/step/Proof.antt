@@ -8,7 +8,7 @@ use mir.Syntax.{w64}
 use Rattle.integers.proofs.Difference.{back}
 use Rattle.state.specs.declared.State.{State}
 use Rattle.ets.specs.Steps.{stepCode, afterReading, residualOf}
-use Rattle.ets.specs.Updates.{numbersOf, updateOf}
+use Rattle.ets.specs.Updates.{numbersOf, update}
 use Rattle.ets.specs.declared.Numbers.{Numbers}
 use Rattle.ets.specs.declared.Update.{Update}
 use Rattle.snapshot.specs.Snapshots.{decoded}
@@ -43,8 +43,8 @@ module _ (c : tie.After-update) where
   held : Held (d o) (o .opened .result)
   held = holds (d o) _ (o .opened .ensures) (c .before .before .if1 .left)
 
-  update-is : c .update .result ≡ updateOf (numbersOf (decoded (d o))) (y o)
-  update-is = (rw (toZ-ofZ (o .before .before .before .fits .reading)) at (c .update .ensures)) ∙ ap (λ (n : Numbers). updateOf n (y o)) (held .numbers)
+  update-is : c .update .result ≡ update (numbersOf (decoded (d o))) (y o)
+  update-is = (rw (toZ-ofZ (o .before .before .before .fits .reading)) at (c .update .ensures)) ∙ ap (λ (n : Numbers). update n (y o)) (held .numbers)
 
   code-is : c .update .result .code ≡ stepCode (decoded (d o)) (y o)
   code-is = ap (λ (u : Update). u .code) update-is ∙ direct-code (decoded (d o)) (held .passes) (y o)

@@ -4,12 +4,6 @@ use borrow.Author.Needs.{needs}
 use Rattle.snapshot.proofs.saving.write_model.Statement.{statement}
 use Rattle.snapshot.proofs.saving.write_model.Tie as tie
 
-trend-of-requires : tie.Need-trend-of-requires
-trend-of-requires c κs = search needs
-
-season-of-requires : tie.Need-season-of-requires
-season-of-requires c κs = search needs
-
 model-byte-requires : tie.Need-model-byte-requires
 model-byte-requires c κs = search needs
 
@@ -36,15 +30,13 @@ returns c =
     let m = p .before .before .before .before in
     let f = m .before .before .before .before in
     let b = f .before .before in
-    rw (← (b .before .before .trend-of .ensures), ← (b .before .season-of .ensures), ← (b .model-byte .ensures))
+    rw (← (b .model-byte .ensures))
     (rw (p .write-byte3 .ensures, m .write-byte2 .ensures, f .write-byte .ensures) at (w .write-parameters .ensures))
 
 pub write-model-spec : {M : Type 1} → statement M
 write-model-spec =
     tie.close
     (tie.spec
-    trend-of-requires
-    season-of-requires
     model-byte-requires
     write-byte-requires
     write-byte-requires-2
