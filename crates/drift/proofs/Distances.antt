@@ -18,34 +18,35 @@ use Rattle.state.proofs.Passing.{no-trend, with-season}
 use Rattle.drift.proofs.Readings.{power, valueAt, levelErr, placeErr}
 use Rattle.drift.proofs.ForecastErrors.{flat-line}
 use Rattle.drift.proofs.Invariant.{Good}
-use Rattle.drift.specs.Exact.{Parameters, Exact, parametersOf, exactForecast, expectedForecast}
-use Rattle.drift.specs.Limits.{distance, HalfPerReading, PlainBound, divisor, SeasonalBound, WithinLimit}
+use Rattle.drift.proofs.Flat.{Flat, flatForecast}
+use Rattle.drift.specs.Exact.{Parameters, parametersOf}
+use Rattle.drift.specs.Limits.{AtMost, PlainBound, divisor, SeasonalBound}
 
 -- c |z| ≤ e where z is d
 sized : (c e : ℕ) (z : ℤ) (d : D) → Same (parts z) d → c * d .0 ≤ c * d .1 + e → c * d .1 ≤ c * d .0 + e → c * natAbs z ≤ e
 sized c e (pos n) d s h k = omega (arith, ap (λ (z : ℕ). c * z) s)
 sized c e (negsuc n) d s h k = omega (arith, ap (λ (z : ℕ). c * z) s)
 
-within : (c e n : ℕ) (z Z : ℤ) (d : D) → Same (err (65536 ^ n) (parts z) (parts Z)) d → c * d .0 ≤ c * d .1 + e → c * d .1 ≤ c * d .0 + e → c * distance n z Z ≤ e
-unfolding distance
-within c e n z Z d s h k = sized c e (pos (65536 ^ n) *ℤ z -ℤ Z) d (difference (65536 ^ n) s) h k
+within : (num den n : ℕ) (z Z : ℤ) (d : D) → Same (err (65536 ^ n) (parts z) (parts Z)) d → den * d .0 ≤ den * d .1 + num * 65536 ^ n → den * d .1 ≤ den * d .0 + num * 65536 ^ n → AtMost num den n z Z
+unfolding AtMost
+within num den n z Z d s h k =
+    sized den (num * 65536 ^ n) (pos (65536 ^ n) *ℤ z -ℤ Z) d (difference (65536 ^ n) s) h k
   where
     difference : (P : ℕ) → Same (err P (parts z) (parts Z)) d → Same (parts (pos P *ℤ z -ℤ Z)) d
     difference P s = omega (arith, minus (pos P *ℤ z) Z, scaled P z)
 
-half : (n : ℕ) (z Z : ℤ) → Both (n * 65536 ^ n) (err (65536 ^ n) (parts z) (parts Z)) zeroD → HalfPerReading n z Z
-unfolding HalfPerReading
-half n z Z w = omega (arith, within 2 (n * 65536 ^ n) n z Z (err (65536 ^ n) (parts z) (parts Z)) (omega arith) (omega arith) (omega arith))
+half : (n : ℕ) (z Z : ℤ) → Both (n * 65536 ^ n) (err (65536 ^ n) (parts z) (parts Z)) zeroD → AtMost n 2 n z Z
+half n z Z w = within n 2 n z Z (err (65536 ^ n) (parts z) (parts Z)) (omega arith) (omega arith) (omega arith)
 
-pub level-half : (c : Parameters) (s : State) (x : Exact) → Good c s x → HalfPerReading (x .n) (s .level) (x .L)
+pub level-half : (c : Parameters) (s : State) (x : Flat) → Good c s x → AtMost (x .n) 2 (x .n) (s .level) (x .L)
 level-half c s x w = half (x .n) (s .level) (x .L) (w .level)
 
-pub value-half : (c : Parameters) (s : State) (x : Exact) → Good c s x → (k : ℕ) → HalfPerReading (x .n) (valueAt s k) (x .S k)
+pub value-half : (c : Parameters) (s : State) (x : Flat) → Good c s x → (k : ℕ) → AtMost (x .n) 2 (x .n) (valueAt s k) (x .S k)
 value-half c s x w k = half (x .n) (valueAt s k) (x .S k) (w .places k .1, w .places k .0)
 
 -- ---- a limit that divides by 0
 unlimited : (c : Parameters) (n : ℕ) (z Z : ℤ) → divisor c ≡ 0 → SeasonalBound c n z Z
-unfolding SeasonalBound
+unfolding AtMost
 unlimited c n z Z h = rw h (omega arith)
 
 zero-power : (n : ℕ) → 0 < n → 0 ^ n ≡ 0
@@ -64,7 +65,7 @@ seasonal : (b : Bool) (Kn : ℕ) (v S : ℤ) (u d : D) → b ≡ true → Same u
 seasonal true Kn v S u d h e = e
 seasonal false Kn v S u d h e = absurd (false≢true h)
 
-module _ (s : State) (x : Exact) (h : ℕ) (w : Good (parametersOf s) s x) where
+module _ (s : State) (x : Flat) (h : ℕ) (w : Good (parametersOf s) s x) where
   at : ℕ
   at = (s .index + h - 1) % s .period
 
@@ -72,31 +73,30 @@ module _ (s : State) (x : Exact) (h : ℕ) (w : Good (parametersOf s) s x) where
   f = forecastOf s h
 
   F : ℤ
-  F = exactForecast (parametersOf s) x h
+  F = flatForecast (parametersOf s) x h
 
   rounded : f ≡ s .level +ℤ valueAt s at
   unfolding at f forecastOf seasonAt
   rounded = ap (λ (z : ℤ). z +ℤ seasonAt s h) (flat-line s (no-trend s (w .passes) (w .flat) .phi) h)
 
   exact : F ≡ x .L +ℤ cond (hasSeason (s .model)) (x .S at) (pos 0)
-  unfolding at F exactForecast
+  unfolding at F flatForecast
   exact = ap (λ (q : ℕ). x .L +ℤ cond (hasSeason (s .model)) (x .S ((q + h - 1) % s .period)) (pos 0)) (w .index)
 
   error : Same (err (power x) (parts f) (parts F)) (addD (levelErr s x) (err (power x) (parts (valueAt s at)) (parts (cond (hasSeason (s .model)) (x .S at) (pos 0)))))
   error = both (power x) f (s .level) (valueAt s at) F (x .L) (cond (hasSeason (s .model)) (x .S at) (pos 0)) rounded exact
 
   plain : hasSeason (s .model) ≡ false → PlainBound (parametersOf s) (x .n) f F
-  unfolding PlainBound
   plain ns =
-      within (2 * s .alpha) (65536 * power x) (x .n) f F (levelErr s x)
+      within 65536 (2 * s .alpha) (x .n) f F (levelErr s x)
       (unseasonal (hasSeason (s .model)) (power x) (getD (s .seasonal) at (pos 0)) (x .S at) (err (power x) (parts f) (parts F)) (levelErr s x) ns error)
       (w .plain ns .1)
       (w .plain ns .0)
 
   of-season : hasSeason (s .model) ≡ true → 0 < s .gamma → s .alpha < 65536 → x .missed ≡ 0 → SeasonalBound (parametersOf s) (x .n) f F
-  unfolding SeasonalBound at
+  unfolding at
   of-season ss g a z =
-      within c ((s .period * c + 2 * j) * power x) (x .n) f F (δ .0 + τ .1, δ .1 + τ .0)
+      within (s .period * c + 2 * j) c (x .n) f F (δ .0 + τ .1, δ .1 + τ .0)
       (seasonal (hasSeason (s .model)) (power x) (valueAt s at) (x .S at) (err (power x) (parts f) (parts F)) δ ss error)
       (more (c * (δ .0 + τ .1)) (c * (δ .1 + τ .0)) (s .period) c j (power x) (spread-up 65536 (65536 - s .alpha) (s .gamma) (s .period) (power x) (s .index) (omega arith) (le-of-lt lt) (levelErr s x) (placeErr s x) (w .cycle ss a g z) at (mod-lt (s .index + h - 1) some)))
       (more (c * (δ .1 + τ .0)) (c * (δ .0 + τ .1)) (s .period) c j (power x) (spread-down 65536 (65536 - s .alpha) (s .gamma) (s .period) (power x) (s .index) (omega arith) (le-of-lt lt) (levelErr s x) (placeErr s x) (w .cycle ss a g z) at (mod-lt (s .index + h - 1) some)))
@@ -129,6 +129,10 @@ module _ (s : State) (x : Exact) (h : ℕ) (w : Good (parametersOf s) s x) where
           let e : 65536 - s .alpha ≡ 0 = omega arith in
           unlimited (parametersOf s) (x .n) f F (rw (e, zero-power (s .period) (omega (arith, with-season s (w .passes) ss .index))) (omega arith))
 
-  pub forecast-close : WithinLimit (parametersOf s) (forecastOf s h) (expectedForecast (parametersOf s) x h)
-  unfolding WithinLimit f F
-  forecast-close z = (plain, (λ ss. any-gain ss z))
+  pub plain-close : hasSeason (s .model) ≡ false → PlainBound (parametersOf s) (x .n) (forecastOf s h) (flatForecast (parametersOf s) x h)
+  unfolding f F
+  plain-close = plain
+
+  pub seasonal-close : hasSeason (s .model) ≡ true → x .missed ≡ 0 → SeasonalBound (parametersOf s) (x .n) (forecastOf s h) (flatForecast (parametersOf s) x h)
+  unfolding f F
+  seasonal-close = any-gain

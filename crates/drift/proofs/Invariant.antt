@@ -18,13 +18,14 @@ use Rattle.drift.proofs.Averages.{D, negD, zeroD, Same, StepBelow, half
 use Rattle.drift.proofs.Cycles.{CycleInvariant, negs, inv-step, inv-wrap}
 use Rattle.drift.proofs.Errors.{parts, err, Both}
 use Rattle.drift.proofs.Readings.{power, levelErr, placeErr, reading-below, reading-above}
-use Rattle.drift.specs.Exact.{Parameters, Exact, parametersOf, exactReading, exactMissing, exactSeason}
+use Rattle.drift.proofs.Flat.{Flat, flatReading, flatMissing, flatSeason}
+use Rattle.drift.specs.Exact.{Parameters, parametersOf}
 
 -- 2 a |d| ≤ e
 abbrev pub Sized : ℕ → ℕ → D → Type 0
 Sized a e d = (2 * a * d .1 ≤ 2 * a * d .0 + e) × (2 * a * d .0 ≤ 2 * a * d .1 + e)
 
-pub record Good (c : Parameters) (s : State) (x : Exact) : Type 0 where
+pub record Good (c : Parameters) (s : State) (x : Flat) : Type 0 where
   pub passes : check s ≡ 0
   pub cells : length (s .seasonal) ≡ 48
   pub flat : hasTrend (s .model) ≡ false
@@ -58,7 +59,7 @@ idle : (b : Bool) (Kn : ℕ) (v S : ℤ) → b ≡ false → S ≡ pos 0 → Sam
 idle true Kn v S h e = absurd (false≢true (sym h))
 idle false Kn v S h e = rw e (omega arith)
 
-module _ (s : State) (x : Exact) (w : Good (parametersOf s) s x) where
+module _ (s : State) (x : Flat) (w : Good (parametersOf s) s x) where
   B : ℕ
   B = 65536 - s .alpha
 
@@ -88,8 +89,8 @@ module _ (s : State) (x : Exact) (w : Good (parametersOf s) s x) where
     s′ : State
     s′ = afterReading s y
 
-    x′ : Exact
-    x′ = exactReading (parametersOf s) x y
+    x′ : Flat
+    x′ = flatReading (parametersOf s) x y
 
     grown : 65536 * power x ≡ 65536 ^ suc (x .n)
     grown = sym (pow-succ' 65536 (x .n))
@@ -138,8 +139,8 @@ module _ (s : State) (x : Exact) (w : Good (parametersOf s) s x) where
     cells′ true v = length-set (s .seasonal) (s .index) v ∙ w .cells
     cells′ false v = w .cells
 
-    pub good-reading : check (afterReading s y) ≡ 0 → Good (parametersOf s) (afterReading s y) (exactReading (parametersOf s) x y)
-    unfolding s′ x′ newSeasonal exactSeason
+    pub good-reading : check (afterReading s y) ≡ 0 → Good (parametersOf s) (afterReading s y) (flatReading (parametersOf s) x y)
+    unfolding s′ x′ newSeasonal flatSeason
     good-reading ok =
         record {
           passes = ok;
@@ -154,7 +155,7 @@ module _ (s : State) (x : Exact) (w : Good (parametersOf s) s x) where
         }
 
   -- ---- a missing reading accepted
-  pub good-missing : check (afterMissing s) ≡ 0 → Good (parametersOf s) (afterMissing s) (exactMissing (parametersOf s) x)
+  pub good-missing : check (afterMissing s) ≡ 0 → Good (parametersOf s) (afterMissing s) (flatMissing (parametersOf s) x)
   good-missing ok =
       record {
         passes = ok;

@@ -19,20 +19,21 @@ use Rattle.ets.specs.Steps.{dampedTrend, seasonDue, residualOf, newLevel, newSe
 use Rattle.drift.proofs.Averages.{D, negD, mix, zeroD, Same, scaleD, StepBelow}
 use Rattle.drift.proofs.Cycles.{negs}
 use Rattle.drift.proofs.Errors.{parts, addD, err, Both, residual-error, corrected-both}
-use Rattle.drift.specs.Exact.{Parameters, Exact, parametersOf, exactReading, exactResidual, exactSeason, adjusted}
+use Rattle.drift.proofs.Flat.{Flat, flatReading, flatResidual, flatSeason}
+use Rattle.drift.specs.Exact.{Parameters, parametersOf, adjusted}
 
-abbrev pub power : Exact → ℕ
+abbrev pub power : Flat → ℕ
 power x = 65536 ^ x .n
 
 -- the season value at a place, 0 without season
 abbrev pub valueAt : State → ℕ → ℤ
 valueAt s k = cond (hasSeason (s .model)) (getD (s .seasonal) k (pos 0)) (pos 0)
 
-abbrev pub levelErr : State → Exact → D
+abbrev pub levelErr : State → Flat → D
 levelErr s x = err (power x) (parts (s .level)) (parts (x .L))
 
 -- of a season value, with the sign turned
-abbrev pub placeErr : State → Exact → ℕ → D
+abbrev pub placeErr : State → Flat → ℕ → D
 placeErr s x k = negD (err (power x) (parts (valueAt s k)) (parts (x .S k)))
 
 -- ---- by cases on the season, which is b
@@ -58,22 +59,22 @@ exact-there true S u h = refl
 exact-there false S u h = rw (h refl)
 
 -- the exact values at the place where the state stands
-module _ (c : Parameters) (x : Exact) (y : ℤ) (p : ℕ) (same-p : x .p ≡ p) (none : c .seasonal ≡ false → (c .gamma ≡ 0) × ((k : ℕ) → x .S k ≡ pos 0)) where
-  residual-at : exactResidual x y ≡ pos (power x) *ℤ (pos 65536 *ℤ y) -ℤ x .L -ℤ x .S p
-  unfolding exactResidual
+module _ (c : Parameters) (x : Flat) (y : ℤ) (p : ℕ) (same-p : x .p ≡ p) (none : c .seasonal ≡ false → (c .gamma ≡ 0) × ((k : ℕ) → x .S k ≡ pos 0)) where
+  residual-at : flatResidual x y ≡ pos (power x) *ℤ (pos 65536 *ℤ y) -ℤ x .L -ℤ x .S p
+  unfolding flatResidual
   residual-at = ap (λ (q : ℕ). pos (power x) *ℤ (pos 65536 *ℤ y) -ℤ x .L -ℤ x .S q) same-p
 
-  S-here : exactReading c x y .S p ≡ adjusted (c .gamma) (x .S p) (exactResidual x y)
-  unfolding exactSeason
+  S-here : flatReading c x y .S p ≡ adjusted (c .gamma) (x .S p) (flatResidual x y)
+  unfolding flatSeason
   S-here =
-      ap (λ (b : Bool). cond (c .seasonal) (cond b (adjusted (c .gamma) (x .S p) (exactResidual x y)) (pos 65536 *ℤ x .S p)) (pos 0)) (eq-eqb p (x .p) (sym same-p))
-      ∙ exact-here (c .seasonal) (c .gamma) (x .S p) (exactResidual x y) (pos 65536 *ℤ x .S p) (λ h. (none h .0, none h .1 p))
+      ap (λ (b : Bool). cond (c .seasonal) (cond b (adjusted (c .gamma) (x .S p) (flatResidual x y)) (pos 65536 *ℤ x .S p)) (pos 0)) (eq-eqb p (x .p) (sym same-p))
+      ∙ exact-here (c .seasonal) (c .gamma) (x .S p) (flatResidual x y) (pos 65536 *ℤ x .S p) (λ h. (none h .0, none h .1 p))
 
-  S-there : (k : ℕ) → k ≢ p → exactReading c x y .S k ≡ pos 65536 *ℤ x .S k
-  unfolding exactSeason
+  S-there : (k : ℕ) → k ≢ p → flatReading c x y .S k ≡ pos 65536 *ℤ x .S k
+  unfolding flatSeason
   S-there k h =
-      ap (λ (b : Bool). cond (c .seasonal) (cond b (adjusted (c .gamma) (x .S k) (exactResidual x y)) (pos 65536 *ℤ x .S k)) (pos 0)) (ne-eqb k (x .p) (λ q. h (q ∙ same-p)))
-      ∙ exact-there (c .seasonal) (x .S k) (adjusted (c .gamma) (x .S k) (exactResidual x y)) (λ z. none z .1 k)
+      ap (λ (b : Bool). cond (c .seasonal) (cond b (adjusted (c .gamma) (x .S k) (flatResidual x y)) (pos 65536 *ℤ x .S k)) (pos 0)) (ne-eqb k (x .p) (λ q. h (q ∙ same-p)))
+      ∙ exact-there (c .seasonal) (x .S k) (adjusted (c .gamma) (x .S k) (flatResidual x y)) (λ z. none z .1 k)
 
 -- the rounded ones
 module _ (s : State) (e : ℤ) (flat : dampedTrend s ≡ pos 0) (none : hasSeason (s .model) ≡ false → s .gamma ≡ 0) (fits : s .index < length (s .seasonal)) where
@@ -98,14 +99,14 @@ kept Kn v v′ Z Z′ e h = rw e (omega (arith, ap up h, ap dn h, scaled 65536 Z
 swapped : (ε δ σ : D) → Same (addD ε (addD δ σ)) zeroD → Same (addD ε (addD σ δ)) zeroD
 swapped ε δ σ h = omega arith
 
-module _ (s : State) (x : Exact) (y : ℤ) (B C : ℕ) (hA : s .alpha + B ≡ 65536) (hG : s .gamma + C ≡ 65536) (flat : dampedTrend s ≡ pos 0) (same-p : x .p ≡ s .index) (none : hasSeason (s .model) ≡ false → (s .gamma ≡ 0) × ((k : ℕ) → x .S k ≡ pos 0)) (fits : s .index < length (s .seasonal)) where
+module _ (s : State) (x : Flat) (y : ℤ) (B C : ℕ) (hA : s .alpha + B ≡ 65536) (hG : s .gamma + C ≡ 65536) (flat : dampedTrend s ≡ pos 0) (same-p : x .p ≡ s .index) (none : hasSeason (s .model) ≡ false → (s .gamma ≡ 0) × ((k : ℕ) → x .S k ≡ pos 0)) (fits : s .index < length (s .seasonal)) where
   s′ : State
   s′ = afterReading s y
 
-  x′ : Exact
-  x′ = exactReading (parametersOf s) x y
+  x′ : Flat
+  x′ = flatReading (parametersOf s) x y
 
-  residuals : Same (addD (err (power x) (parts (residualOf s y)) (parts (exactResidual x y))) (addD (err (power x) (parts (s .level)) (parts (x .L))) (err (power x) (parts (valueAt s (s .index))) (parts (x .S (s .index)))))) zeroD
+  residuals : Same (addD (err (power x) (parts (residualOf s y)) (parts (flatResidual x y))) (addD (err (power x) (parts (s .level)) (parts (x .L))) (err (power x) (parts (valueAt s (s .index))) (parts (x .S (s .index)))))) zeroD
   unfolding residualOf seasonDue
   residuals =
       rw (residual-at (parametersOf s) x y (s .index) same-p none)
@@ -115,24 +116,24 @@ module _ (s : State) (x : Exact) (y : ℤ) (B C : ℕ) (hA : s .alpha + B ≡ 65
   unfolding s′ x′
   there k h =
       rw (pow-succ' 65536 (x .n))
-      (kept (power x) (valueAt s k) (valueAt (afterReading s y) k) (x .S k) (exactReading (parametersOf s) x y .S k) (value-other s (residualOf s y) flat (λ h. none h .0) fits k h) (S-there (parametersOf s) x y (s .index) same-p none k h))
+      (kept (power x) (valueAt s k) (valueAt (afterReading s y) k) (x .S k) (flatReading (parametersOf s) x y .S k) (value-other s (residualOf s y) flat (λ h. none h .0) fits k h) (S-there (parametersOf s) x y (s .index) same-p none k h))
 
   levels : Both (65536 * power x) (levelErr s′ x′) (mix B (levelErr s x) (s .alpha) (placeErr s x (s .index)))
   unfolding s′ x′
   levels =
       rw (pow-succ' 65536 (x .n))
-      (corrected-both (power x) (s .alpha) B hA (residualOf s y) (exactResidual x y) (s .level) (x .L) (valueAt s (s .index)) (x .S (s .index)) (s′ .level) (x′ .L) (level-new s (residualOf s y) flat (λ h. none h .0) fits) refl residuals)
+      (corrected-both (power x) (s .alpha) B hA (residualOf s y) (flatResidual x y) (s .level) (x .L) (valueAt s (s .index)) (x .S (s .index)) (s′ .level) (x′ .L) (level-new s (residualOf s y) flat (λ h. none h .0) fits) refl residuals)
 
   values : Both (65536 * power x) (negD (placeErr s′ x′ (s .index))) (mix C (negD (placeErr s x (s .index))) (s .gamma) (negD (levelErr s x)))
   unfolding s′ x′
   values =
       rw (pow-succ' 65536 (x .n))
-      (corrected-both (power x) (s .gamma) C hG (residualOf s y) (exactResidual x y) (valueAt s (s .index)) (x .S (s .index)) (s .level) (x .L) (valueAt s′ (s .index)) (x′ .S (s .index)) (value-new s (residualOf s y) flat (λ h. none h .0) fits) (S-here (parametersOf s) x y (s .index) same-p none) (swapped _ _ _ residuals))
+      (corrected-both (power x) (s .gamma) C hG (residualOf s y) (flatResidual x y) (valueAt s (s .index)) (x .S (s .index)) (s .level) (x .L) (valueAt s′ (s .index)) (x′ .S (s .index)) (value-new s (residualOf s y) flat (λ h. none h .0) fits) (S-here (parametersOf s) x y (s .index) same-p none) (swapped _ _ _ residuals))
 
-  pub reading-below : StepBelow 65536 (s .alpha) B (s .gamma) C (power x) (s .index) (levelErr s x) (placeErr s x) (levelErr (afterReading s y) (exactReading (parametersOf s) x y)) (placeErr (afterReading s y) (exactReading (parametersOf s) x y))
+  pub reading-below : StepBelow 65536 (s .alpha) B (s .gamma) C (power x) (s .index) (levelErr s x) (placeErr s x) (levelErr (afterReading s y) (flatReading (parametersOf s) x y)) (placeErr (afterReading s y) (flatReading (parametersOf s) x y))
   unfolding s′ x′
   reading-below = record { level = levels .0; here = values .1; there = there }
 
-  pub reading-above : StepBelow 65536 (s .alpha) B (s .gamma) C (power x) (s .index) (negD (levelErr s x)) (negs (placeErr s x)) (negD (levelErr (afterReading s y) (exactReading (parametersOf s) x y))) (negs (placeErr (afterReading s y) (exactReading (parametersOf s) x y)))
+  pub reading-above : StepBelow 65536 (s .alpha) B (s .gamma) C (power x) (s .index) (negD (levelErr s x)) (negs (placeErr s x)) (negD (levelErr (afterReading s y) (flatReading (parametersOf s) x y))) (negs (placeErr (afterReading s y) (flatReading (parametersOf s) x y)))
   unfolding s′ x′
   reading-above = record { level = levels .1; here = values .0; there = λ k h. sym (there k h) }

@@ -1,0 +1,76 @@
+-- The pins, computed.
+use mathlib.Core.Path.{_≡_, refl}
+use mathlib.Core.List.{List, [], _∷_}
+use Prim.Native.Nat.{ℕ, zero, suc, _+_, _*_, _^_, _≤_, _<_}
+use native.Mathlib.Omega.{arith}
+use lib.Dec.{le→leb, leb→le}
+use lib.IntN.{ℤ, pos}
+use lib.ListN.{getD, replicate, getD-replicate}
+use borrow.Author.Tests.{eq-eqb}
+use Rattle.state.specs.Fixed.{R}
+use Rattle.state.specs.States.{check, allBelow}
+use Rattle.ets.specs.Steps.{dampedTrend, seasonDue, residualOf, newLevel, newTrend, newSeason, newSeasonal, nextIndex, stepCode, missingCode, step, missing}
+use Rattle.ets.specs.Batches.{takeCode, afterTake, run, batchRun, batch, batchLevels}
+use Rattle.ets.specs.Forecasts.{trendAt, trendLine, seasonAt, forecastOf, forecastCode, forecast, forecastList, forecastsCode, forecasts, forecastCells}
+use Rattle.snapshot.specs.Bytes.{fromBytes, toBytes}
+use Rattle.snapshot.specs.Snapshots.{isCommand, dueCode, modelCode, levelCode, seasonCode, seasonsCode, positionCode, openCode, openOffset, cellsAt, decoded, modelBytes, levelBytes, seasonBytes, seasonsBytes, positionBytes, encoded}
+use Rattle.c_api.specs.LentSnapshots.{lentCode, lentStepCode, lentStepBytes, lentMissingCode, lentMissingBytes, lentForecastCode, lentForecast}
+use Rattle.traces.specs.Calls.{result, after}
+use Rattle.drift.specs.Exact.{Parameters, opened, exactDamped, exactResidual, adjusted, exactSeason, exactTake, exactBatch, exactTrendAt, exactLine, exactForecast, exactAfter, Expected, expectedLevels, expectedForecasts, expected}
+use Rattle.drift.specs.Limits.{AtMost, WithinLimit, EachWithin, none, more, Claim, Opening}
+use Rattle.drift.specs.Pins.{trendless, standing, ClaimOf, Refused, beside, creep, Attained, compared, falling, gaps, Needed, opening, calls, Shown, Pins}
+use Rattle.drift.proofs.Drift.{demand3}
+
+-- the first comparison of an answer
+first : {c : Parameters} {z : ℤ} {e : Expected} {zs : List ℤ} {es : List Expected} → EachWithin c (z ∷ zs) (e ∷ es) → WithinLimit c z e
+first (more h u) = h
+
+place-refused : (k : ℕ) → k < 48 → ClaimOf (trendless 4 48 32768 32768 (pos 0) [] 0) (standing (pos 0) 0 k (pos 1)) [] → ⊥
+unfolding Claim AtMost
+place-refused k l h =
+    le→leb 2 0 (rw (getD-replicate 48 k (pos 0) (pos 0) l, eq-eqb k k refl) at (h .seasons k l))
+
+refused : Refused
+unfolding Claim AtMost WithinLimit result check allBelow R dampedTrend seasonDue residualOf newLevel newTrend newSeason newSeasonal nextIndex stepCode takeCode afterTake run batchRun batch batchLevels trendAt trendLine seasonAt forecastOf forecastCode forecast forecastList forecastsCode forecasts forecastCells fromBytes toBytes isCommand dueCode modelCode levelCode seasonCode seasonsCode positionCode openCode openOffset cellsAt decoded modelBytes levelBytes seasonBytes seasonsBytes positionBytes encoded lentCode lentForecastCode lentForecast exactDamped exactResidual adjusted exactSeason exactTake exactTrendAt exactLine exactForecast expectedLevels expectedForecasts exactAfter expected
+refused =
+    record {
+      level-one = λ h. le→leb _ _ (h .level);
+      level-three = λ h. le→leb _ _ (h .level);
+      places = place-refused;
+      cell = λ h. le→leb _ _ (first (h .0));
+      forecast = λ h. le→leb _ _ (first (h .0) refl .0 refl);
+      forecasts = λ h. le→leb _ _ (first (h .0) refl .0 refl);
+      in-place = λ h. le→leb _ _ (first (h .0) refl .0 refl);
+      carried = λ h. le→leb _ _ (first (h .1 .0) refl .0 refl);
+      season-two = λ h. le→leb _ _ (first (h .0) refl .1 refl);
+      season-three = λ h. le→leb _ _ (first (h .0) refl .1 refl);
+      damped-one = λ h. le→leb _ _ h;
+      damped-two = λ h. le→leb _ _ h;
+      damped-last = λ h. le→leb _ _ h;
+    }
+
+attained : Attained
+unfolding creep after beside result check allBelow R dampedTrend seasonDue residualOf newLevel newTrend newSeason newSeasonal nextIndex stepCode step trendAt trendLine seasonAt forecastOf exactDamped exactResidual adjusted exactSeason exactTrendAt exactLine exactForecast exactAfter
+attained = record { half = refl; plain-sixteen = refl; damped-one = refl; damped-eight = leb→le _ _ tt }
+
+needed : Needed
+unfolding AtMost WithinLimit falling gaps after beside result check allBelow R dampedTrend seasonDue residualOf newLevel newTrend newSeason newSeasonal nextIndex stepCode step missingCode missing trendAt trendLine seasonAt forecastOf forecastCode forecast exactDamped exactResidual adjusted exactSeason exactTrendAt exactLine exactForecast exactAfter expected
+needed =
+    record {
+      level-alone = (refl, refl, λ h. le→leb _ _ h);
+      answer = refl;
+      judged = refl;
+      missing = λ h. le→leb _ _ h;
+      unclaimed = λ z. absurd (omega arith);
+    }
+
+opens : Opening opening
+unfolding check allBelow
+opens = record { cells = refl; passes = refl; trendless = refl }
+
+shown : Shown
+unfolding compared calls result check allBelow R dampedTrend seasonDue residualOf newLevel newTrend newSeason newSeasonal nextIndex stepCode missingCode step missing takeCode afterTake run batchRun batch batchLevels trendAt trendLine seasonAt forecastOf forecastCode forecast forecastList forecastsCode forecasts forecastCells fromBytes toBytes isCommand dueCode modelCode levelCode seasonCode seasonsCode positionCode openCode openOffset cellsAt decoded modelBytes levelBytes seasonBytes seasonsBytes positionBytes encoded lentCode lentStepCode lentStepBytes lentMissingCode lentMissingBytes lentForecastCode lentForecast exactDamped exactResidual adjusted exactSeason exactTake exactBatch exactTrendAt exactLine exactForecast exactAfter expectedLevels expectedForecasts expected
+shown = record { opens = opens; holds = demand3 opening opens calls; compares = refl }
+
+pub pins : Pins
+pins = record { refused = refused; attained = attained; needed = needed; shown = shown }
