@@ -18,7 +18,8 @@ use Rattle.c_api.specs.LentSnapshots.{lentCode, lentStepCode, lentStepBytes, le
 use Rattle.traces.specs.Calls.{result, after}
 use Rattle.drift.specs.Exact.{Parameters, opened, exactDamped, exactResidual, adjusted, exactSeason, exactTake, exactBatch, exactTrendAt, exactLine, exactForecast, exactAfter, Expected, expectedLevels, expectedForecasts, expected}
 use Rattle.drift.specs.Limits.{AtMost, WithinLimit, EachWithin, none, more, Claim, Opening}
-use Rattle.drift.specs.Pins.{trendless, standing, ClaimOf, Refused, beside, creep, Attained, compared, falling, gaps, Needed, opening, calls, Shown, Pins}
+use Rattle.drift.specs.Components.{StepError}
+use Rattle.drift.specs.Pins.{trendless, damped, standing, ClaimOf, Refused, beside, creep, Attained, compared, falling, gaps, Needed, opening, calls, Shown, Pins}
 use Rattle.drift.proofs.Drift.{demand3}
 
 -- the first comparison of an answer
@@ -68,9 +69,13 @@ opens : Opening opening
 unfolding check allBelow
 opens = record { cells = refl; passes = refl; trendless = refl }
 
+stepped : StepError (damped 1 (pos 1000000)) (pos 0)
+unfolding AtMost R dampedTrend seasonDue residualOf newLevel newTrend newSeason newSeasonal nextIndex exactDamped exactResidual adjusted exactSeason
+stepped = record { level = leb→le _ _ tt; trend = leb→le _ _ tt; seasons = λ k l. absurd (omega arith) }
+
 shown : Shown
 unfolding compared calls result check allBelow R dampedTrend seasonDue residualOf newLevel newTrend newSeason newSeasonal nextIndex stepCode missingCode step missing takeCode afterTake run batchRun batch batchLevels trendAt trendLine seasonAt forecastOf forecastCode forecast forecastList forecastsCode forecasts forecastCells fromBytes toBytes isCommand dueCode modelCode levelCode seasonCode seasonsCode positionCode openCode openOffset cellsAt decoded modelBytes levelBytes seasonBytes seasonsBytes positionBytes encoded lentCode lentStepCode lentStepBytes lentMissingCode lentMissingBytes lentForecastCode lentForecast exactDamped exactResidual adjusted exactSeason exactTake exactBatch exactTrendAt exactLine exactForecast exactAfter expectedLevels expectedForecasts expected
-shown = record { opens = opens; holds = demand3 opening opens calls; compares = refl }
+shown = record { step = stepped; opens = opens; holds = demand3 opening opens calls; compares = refl }
 
 pub pins : Pins
 pins = record { refused = refused; attained = attained; needed = needed; shown = shown }

@@ -3,7 +3,6 @@ use mathlib.Core.Path.{_≡_, refl, sym, _∙_, ap}
 use mathlib.Core.Bool.{Bool, true, false, cond, not}
 use Prim.Native.Nat.{ℕ, zero, suc, _+_, _*_, _-_, _/_, _%_, _^_, _≤_, _<_}
 use native.Mathlib.Nat.{le-refl, pow-succ'}
-use native.Mathlib.Numerals.{add-one}
 use native.Mathlib.Omega.{arith}
 use lib.Dec.{eqb}
 use lib.IntN.{ℤ, pos, negsuc, natAbs, _+ℤ_, _-ℤ_, _*ℤ_, zero-*ℤ}
@@ -146,8 +145,8 @@ module _ (s : State) (ok : check s ≡ 0) (h : ℕ) where
   damped : DampedBound h (forecastOf s h) (exactFrom s h)
   unfolding AtMost forecastOf
   damped =
-      rw (from-same s h, with-season (65536 ^ h) (trendLine (s .level) (s .phi) (s .trend) h) (exactLine (parametersOf s) (opened s) h) (seasonAt s h), add-one h)
-      (absolute (h * suc h * 65536 ^ h) (pos (65536 ^ h) *ℤ trendLine (s .level) (s .phi) (s .trend) h -ℤ exactLine (parametersOf s) (opened s) h) (line-error s (bounded s ok .phi) h))
+      rw (from-same s h, with-season (65536 ^ h) (trendLine (s .level) (s .phi) (s .trend) h) (exactLine (parametersOf s) (opened s) h) (seasonAt s h))
+      (omega (arith, absolute (h * suc h * 65536 ^ h) (pos (65536 ^ h) *ℤ trendLine (s .level) (s .phi) (s .trend) h -ℤ exactLine (parametersOf s) (opened s) h) (line-error s (bounded s ok .phi) h)))
 
   undamped : (trendOf (s .model) ≡ 2 → ⊥) → pos (65536 ^ h) *ℤ forecastOf s h ≡ exactFrom s h
   unfolding forecastOf

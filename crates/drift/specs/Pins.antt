@@ -12,6 +12,7 @@ use Rattle.ets.specs.Forecasts.{forecastOf}
 use Rattle.traces.specs.Calls.{followed, cut, Call, Reading, Missing, Batch, Forecast, Forecasts, InPlaceReading, InPlaceMissing, InPlaceForecast, result, after}
 use Rattle.drift.specs.Exact.{Parameters, parametersOf, Exact, opened, exactForecast, exactAfter, Expected, level-is, forecast-is, expected}
 use Rattle.drift.specs.Limits.{distance, SeasonalBound, WithinLimit, Claim, Opening}
+use Rattle.drift.specs.Components.{StepError}
 use Rattle.drift.specs.ForecastErrors.{exactFrom, DampedBound}
 
 -- ---- states: model, m, A, G, l, the season's values and the count; and one with a damped trend b
@@ -167,6 +168,8 @@ calls =
     ∷ []
 
 pub record Shown : Type 0 where
+  -- a step whose d is 1,000,000/65536 = 15.2.., rounded to 15
+  pub step : StepError (damped 1 (pos 1000000)) (pos 0)
   pub opens : Opening opening
   pub holds : ClaimOf opening (opened opening) calls
   pub compares : compared (parametersOf opening) opening (opened opening) calls

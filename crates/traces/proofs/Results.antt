@@ -82,7 +82,7 @@ direct-forecasts s h cells =
     (forecasts-all h (forecastsCode s h (length cells)) (take h (forecastCells s h cells)) (forecasts-numbers s h cells))
 
 -- ---- in place
-cells-after : (s : State) (y : ℤ) → length (s .seasonal) ≡ 48 → length (afterReading s y .seasonal) ≡ 48
+pub cells-after : (s : State) (y : ℤ) → length (s .seasonal) ≡ 48 → length (afterReading s y .seasonal) ≡ 48
 unfolding newSeasonal
 cells-after s y full = go (hasSeason (s .model))
   where

@@ -19,7 +19,7 @@ period-in : (s : State) → getD (encoded s) 2 0 ≡ s .period
 unfolding encoded modelBytes
 period-in s = refl
 
-too-short : (s : State) (size : ℕ) → size < length (encoded s) → lentCode (take size (encoded s)) ≡ 0 → ⊥
+pub too-short : (s : State) (size : ℕ) → size < length (encoded s) → lentCode (take size (encoded s)) ≡ 0 → ⊥
 unfolding decoded
 too-short s size h z =
     let w = lent (take size (encoded s)) z .whole in

@@ -1,0 +1,105 @@
+-- What every call keeps, and the slices of calls in place.
+use Prim.Native.Nat.{ℕ, _<_}
+use mathlib.Core.Path.{_≡_, refl, sym, _∙_, ap}
+use mathlib.Core.Bool.{Bool, true, false, cond}
+use mathlib.Core.List.{List, [], _∷_, append-nil}
+use lib.Dec.{eqb}
+use lib.IntN.{ℤ}
+use lib.ListN.{length, getD}
+use Rattle.state.specs.Fixed.{isSentinel}
+use Rattle.state.specs.declared.State.{State}
+use Rattle.ets.specs.Steps.{stepCode, missingCode, afterReading, afterMissing}
+use Rattle.ets.specs.Batches.{run, preceded, halted, takeCode, afterTake, batchCode, batchRun}
+use Rattle.ets.proofs.ForecastLaws.{list-length}
+use Rattle.ets.proofs.Kept.{reading-kept, missing-kept}
+use Rattle.snapshot.specs.Snapshots.{encoded, decoded}
+use Rattle.snapshot.proofs.RoundTrip.{accepted-passes, accepted-size, length-decoded}
+use Rattle.snapshot.proofs.Patches.{whole}
+use Rattle.c_api.specs.LentSnapshots.{lentCode, lentStepBytes, lentMissingBytes}
+use Rattle.c_api.proofs.LentLaws.{lent, step-bytes, missing-bytes, step-state, missing-state}
+use Rattle.traces.specs.Calls.{followed, Call, InPlaceReading, InPlaceMissing, Result, result, sliceOf}
+use Rattle.traces.specs.Laws.{filled, Passing, CallLaw, CallLaws, Holds, SliceLaws}
+use Rattle.traces.proofs.Slices.{too-short}
+use Rattle.traces.proofs.Results.{by-code, Works, reads, misses, takes, forecasts-one, forecasts-all, works, cells-after}
+
+-- ---- a state that passes stays one
+module _ (s : State) (w : Passing s) where
+  after-reading : (y : ℤ) → stepCode s y ≡ 0 → Passing (afterReading s y)
+  after-reading y z = record { cells = cells-after s y (w .cells); passes = reading-kept s y (w .cells) z }
+
+  after-missing : missingCode s ≡ 0 → Passing (afterMissing s)
+  after-missing z = record { cells = w .cells; passes = missing-kept s z }
+
+  after-take : (y : ℤ) → takeCode s y ≡ 0 → Passing (afterTake s y)
+  unfolding takeCode afterTake
+  after-take y = go (isSentinel y)
+    where
+      go : (b : Bool) → cond b (missingCode s) (stepCode s y) ≡ 0 → Passing (cond b (afterMissing s) (afterReading s y))
+      go true = after-missing
+      go false = after-reading y
+
+after-run : (ys : List ℤ) (s : State) → Passing s → Passing (run s ys .state)
+unfolding run
+after-run [] s w = w
+after-run (y ∷ ys) s w =
+    by-code (λ b. Passing (cond b (preceded (afterTake s y .level) (run (afterTake s y) ys)) (halted s (takeCode s y)) .state)) (takeCode s y)
+    (λ z. after-run ys (afterTake s y) (after-take s w y z))
+    w
+
+after-batch : (ys : List ℤ) (room : ℕ) (s : State) → Passing s → Passing (batchRun s ys room .state)
+unfolding batchRun
+after-batch ys room s w =
+    by-code (λ b. Passing (cond b (run s ys) (halted s (batchCode s (length ys) room)) .state)) (batchCode s (length ys) room)
+    (λ z. after-run ys s w)
+    w
+
+stays : (s : State) → Passing s → {r : Result} → Works s r → Passing (r .state)
+stays s w (reads y n f) = by-code (λ b. Passing (cond b (afterReading s y) s)) n (λ z. after-reading s w y (f z)) w
+stays s w (misses n f) = by-code (λ b. Passing (cond b (afterMissing s) s)) n (λ z. after-missing s w (f z)) w
+stays s w (takes ys room) = after-batch ys room s w
+stays s w (forecasts-one h n v f) = w
+stays s w (forecasts-all h n zs f) = w
+
+counted : (s : State) {r : Result} → Works s r → length (r .numbers) ≡ filled (r .event)
+counted s (reads y n f) = by-code (λ b. length {A = ℤ} (cond b [] []) ≡ 0) n (λ z. refl) refl
+counted s (misses n f) = by-code (λ b. length {A = ℤ} (cond b [] []) ≡ 0) n (λ z. refl) refl
+counted s (takes ys room) = refl
+counted s (forecasts-one h n v f) = by-code (λ b. length (cond b (v ∷ []) []) ≡ cond b 1 0) n (λ z. refl) refl
+counted s (forecasts-all h n zs f) = by-code (λ b. length (cond b zs []) ≡ cond b h 0) n (λ z. ap length (f z) ∙ list-length s h) refl
+
+pub call-laws : CallLaws
+call-laws s w k =
+    let u = works s (w .cells) (w .passes) k in
+    record { stays = stays s w u; counted = counted s u }
+
+-- ---- slices
+opening : (d : List ℕ) → ((i : ℕ) → getD d i 0 < 256) → lentCode d ≡ 0 → Holds d (decoded d)
+opening d b z =
+    let o = lent d z .opens in
+    record {
+      bytes = sym (whole d (λ i. record { fits = b i }) o (accepted-size d o .0 ∙ lent d z .whole)) ∙ sym (append-nil (encoded (decoded d)));
+      state = record { cells = length-decoded d; passes = accepted-passes d o };
+    }
+
+module _ (d : List ℕ) (s : State) (w : Holds d s) where
+  d-is : d ≡ encoded s
+  d-is = w .bytes ∙ append-nil (encoded s)
+
+  reading : (y : ℤ) → Holds (lentStepBytes d y) (result s (InPlaceReading (followed []) y) .state)
+  unfolding result
+  reading y =
+      record {
+        bytes = rw (d-is, append-nil (encoded s), step-state s (w .state .cells) (w .state .passes) y) (step-bytes s (w .state .cells) (w .state .passes) y ∙ sym (append-nil (encoded _)));
+        state = call-laws s (w .state) (InPlaceReading (followed []) y) .stays;
+      }
+
+  missing : Holds (lentMissingBytes d) (result s (InPlaceMissing (followed [])) .state)
+  unfolding result
+  missing =
+      record {
+        bytes = rw (d-is, append-nil (encoded s), missing-state s (w .state .cells) (w .state .passes)) (missing-bytes s (w .state .cells) (w .state .passes) ∙ sym (append-nil (encoded _)));
+        state = call-laws s (w .state) (InPlaceMissing (followed [])) .stays;
+      }
+
+pub slice-laws : SliceLaws
+slice-laws = record { opening = opening; reading = reading; missing = missing; short = too-short }
