@@ -75,7 +75,7 @@ stepped = record { level = leb→le _ _ tt; trend = leb→le _ _ tt; seasons = �
 
 shown : Shown
 unfolding compared calls result check allBelow R dampedTrend seasonDue residualOf newLevel newTrend newSeason newSeasonal nextIndex stepCode missingCode step missing takeCode afterTake run batchRun batch batchLevels trendAt trendLine seasonAt forecastOf forecastCode forecast forecastList forecastsCode forecasts forecastCells fromBytes toBytes isCommand dueCode modelCode levelCode seasonCode seasonsCode positionCode openCode openOffset cellsAt decoded modelBytes levelBytes seasonBytes seasonsBytes positionBytes encoded lentCode lentStepCode lentStepBytes lentMissingCode lentMissingBytes lentForecastCode lentForecast exactDamped exactResidual adjusted exactSeason exactTake exactBatch exactTrendAt exactLine exactForecast exactAfter expectedLevels expectedForecasts expected
-shown = record { step = stepped; opens = opens; holds = demand3 opening opens calls; compares = refl }
+shown = record { step = stepped; opens = opens; holds = demand3 opening opens calls; short = refl; compares = refl }
 
 pub pins : Pins
 pins = record { refused = refused; attained = attained; needed = needed; shown = shown }

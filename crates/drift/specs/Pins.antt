@@ -7,9 +7,11 @@ use mathlib.Core.Path.{_≡_}
 use lib.Dec.{eqb}
 use lib.IntN.{ℤ, pos, negsuc}
 use lib.ListN.{length, replicate}
+use Rattle.state.specs.Rejections.{truncated}
 use Rattle.state.specs.declared.State.{State}
 use Rattle.ets.specs.Forecasts.{forecastOf}
-use Rattle.traces.specs.Calls.{followed, cut, Call, Reading, Missing, Batch, Forecast, Forecasts, InPlaceReading, InPlaceMissing, InPlaceForecast, result, after}
+use Rattle.c_api.specs.LentSnapshots.{lentCode}
+use Rattle.traces.specs.Calls.{followed, cut, sliceOf, Call, Reading, Missing, Batch, Forecast, Forecasts, InPlaceReading, InPlaceMissing, InPlaceForecast, result, after}
 use Rattle.drift.specs.Exact.{Parameters, parametersOf, Exact, opened, exactForecast, exactAfter, Expected, level-is, forecast-is, expected}
 use Rattle.drift.specs.Limits.{distance, SeasonalBound, WithinLimit, Claim, Opening}
 use Rattle.drift.specs.Components.{StepError}
@@ -75,7 +77,7 @@ pub record Refused : Type 0 where
   -- the exact recursion goes on from call to call: after a rejected one it stands where it stood
   pub carried : ClaimOf (plain (pos 1)) (standing (negsuc 0) 4 0 (pos 0)) (Forecast 513 ∷ Forecast 1 ∷ []) → ⊥
   -- m + 2m/(γ (1 − α)^m): 2 + 4 × 8 = 34 for m = 2 and α = γ = 1/2; 3 + 6 × 64/27 = 17.2.. for m = 3, α = 1/4, γ = 1
-  pub season-two : ClaimOf (trendless 4 2 32768 32768 (pos 34) [] 0) (standing (negsuc 0) 68 0 (pos 0)) (Forecast 1 ∷ []) → ⊥
+  pub season-two : ClaimOf (trendless 4 2 32768 32768 (pos 34) [] 0) (standing (negsuc 0) 70 0 (pos 0)) (Forecast 1 ∷ []) → ⊥
   pub season-three : ClaimOf (trendless 4 3 16384 65536 (pos 18) [] 0) (standing (pos 0) 36 0 (pos 0)) (Forecast 1 ∷ []) → ⊥
   -- h × (h + 1)/4 at h = 1, 2 and 512: the least distance above it
   pub damped-one : DampedBound 1 (pos 0) (pos (65536 / 2 + 1)) → ⊥
@@ -172,6 +174,7 @@ pub record Shown : Type 0 where
   pub step : StepError (damped 1 (pos 1000000)) (pos 0)
   pub opens : Opening opening
   pub holds : ClaimOf opening (opened opening) calls
+  pub short : lentCode (sliceOf opening (cut 65)) ≡ truncated
   pub compares : compared (parametersOf opening) opening (opened opening) calls
       ≡ ([], [])
       ∷ (

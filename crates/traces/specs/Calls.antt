@@ -76,11 +76,7 @@ result s (InPlaceMissing slice) =
 result s (InPlaceForecast slice h old) =
     let d = sliceOf s slice in answered s (horizon h) (lentForecastCode d h) (lentForecast d h old ∷ [])
 
--- the results of a list of calls in order, each from the state that stands after the one before; and the state that stands after the list
-unfoldable pub results : State → List Call → List Result
-results s [] = []
-results s (k ∷ ks) = result s k ∷ results (result s k .state) ks
-
+-- the state that stands after a list of calls: each gets the one that stands after the one before
 unfoldable pub after : State → List Call → State
 after s [] = s
 after s (k ∷ ks) = after (result s k .state) ks
