@@ -6,21 +6,23 @@ use mathlib.Core.List.{List, [], _∷_, append-nil}
 use lib.Dec.{eqb}
 use lib.IntN.{ℤ}
 use lib.ListN.{length, getD}
+use Rattle.state.specs.Rejections.{answerValue}
 use Rattle.state.specs.Fixed.{isSentinel}
 use Rattle.state.specs.declared.State.{State}
 use Rattle.ets.specs.Steps.{stepCode, missingCode, afterReading, afterMissing}
 use Rattle.ets.specs.Batches.{run, preceded, halted, takeCode, afterTake, batchCode, batchRun}
+use Rattle.ets.specs.Forecasts.{forecastCode, forecastOf, forecast}
 use Rattle.ets.proofs.ForecastLaws.{list-length}
 use Rattle.ets.proofs.Kept.{reading-kept, missing-kept}
 use Rattle.snapshot.specs.Snapshots.{encoded, decoded}
 use Rattle.snapshot.proofs.RoundTrip.{accepted-passes, accepted-size, length-decoded}
 use Rattle.snapshot.proofs.Patches.{whole}
 use Rattle.c_api.specs.LentSnapshots.{lentCode, lentStepBytes, lentMissingBytes}
-use Rattle.c_api.proofs.LentLaws.{lent, step-bytes, missing-bytes, step-state, missing-state}
-use Rattle.traces.specs.Calls.{followed, Call, InPlaceReading, InPlaceMissing, Result, result, sliceOf}
-use Rattle.traces.specs.Laws.{filled, Passing, CallLaw, CallLaws, Holds, SliceLaws}
+use Rattle.c_api.proofs.LentLaws.{lent, step-code, step-bytes, step-state, missing-code, missing-bytes, missing-state, forecast-code, forecast-value}
+use Rattle.traces.specs.Calls.{followed, Call, Reading, Missing, Forecast, InPlaceReading, InPlaceMissing, InPlaceForecast, horizon, Result, result, sliceOf}
+use Rattle.traces.specs.Laws.{filled, Passing, CallLaw, CallLaws, InPlaceLaw, InPlaceLaws, Holds, SliceLaws}
 use Rattle.traces.proofs.Slices.{too-short}
-use Rattle.traces.proofs.Results.{by-code, Works, reads, misses, takes, forecasts-one, forecasts-all, works, cells-after}
+use Rattle.traces.proofs.Results.{by-code, Works, reads, misses, takes, forecasts-one, forecasts-all, works, cells-after, reading-code, missed-code, forecast-rejection, forecast-answer}
 
 -- ---- a state that passes stays one
 module _ (s : State) (w : Passing s) where
@@ -71,6 +73,27 @@ pub call-laws : CallLaws
 call-laws s w k =
     let u = works s (w .cells) (w .passes) k in
     record { stays = stays s w u; counted = counted s u }
+
+-- ---- in place
+module _ (s : State) (w : Passing s) where
+  same-reading : (y : ℤ) → result s (InPlaceReading (followed []) y) ≡ result s (Reading y)
+  unfolding result
+  same-reading y =
+      rw (append-nil (encoded s), step-state s (w .cells) (w .passes) y, step-code s (w .cells) (w .passes) y, reading-code s y)
+
+  same-missing : result s (InPlaceMissing (followed [])) ≡ result s Missing
+  unfolding result
+  same-missing =
+      rw (append-nil (encoded s), missing-state s (w .cells) (w .passes), missing-code s (w .cells) (w .passes), missed-code s)
+
+  same-forecast : (h : ℕ) (old : ℤ) → result s (InPlaceForecast (followed []) h old) ≡ result s (Forecast h)
+  unfolding result
+  same-forecast h old =
+      rw (append-nil (encoded s), forecast-code s (w .cells) (w .passes) h, forecast-value s (w .cells) (w .passes) h old, forecast-rejection s h)
+      (ap (λ (zs : List ℤ). record { state = s; event = horizon h (eqb (forecastCode s h) 0); numbers = zs }) (by-code (λ b. cond b (cond b (forecastOf s h) old ∷ []) [] ≡ cond b (answerValue (forecast s h) ∷ []) []) (forecastCode s h) (λ z. ap (λ (v : ℤ). v ∷ []) (sym (forecast-answer s h z))) refl))
+
+pub in-place-laws : InPlaceLaws
+in-place-laws s w = record { reading = same-reading s w; missing = same-missing s w; forecast = same-forecast s w }
 
 -- ---- slices
 opening : (d : List ℕ) → ((i : ℕ) → getD d i 0 < 256) → lentCode d ≡ 0 → Holds d (decoded d)

@@ -8,7 +8,7 @@ use lib.IntN.{ℤ}
 use lib.ListN.{length, take, drop, set, length-set}
 use lib.Seq.{take-at}
 use borrow.Author.Tests.{eqb-true}
-use Rattle.state.specs.Rejections.{_then_, answerCode, answerValue}
+use Rattle.state.specs.Rejections.{_then_, outcomeCode, answerCode, answerValue}
 use Rattle.state.specs.Models.{hasSeason}
 use Rattle.state.specs.States.{check}
 use Rattle.state.specs.declared.State.{State}
@@ -40,13 +40,21 @@ pub data Works (s : State) : Result → Type 0 where
   forecasts-all : (h n : ℕ) (zs : List ℤ) → (n ≡ 0 → zs ≡ forecastList s h) → Works s (answered s (horizons h) n zs)
 
 -- ---- handed in directly
+pub reading-code : (s : State) (y : ℤ) → answerCode (step s y .residual) ≡ stepCode s y
+unfolding step
+reading-code s y = answer-code (stepCode s y) (residualOf s y)
+
+pub missed-code : (s : State) → outcomeCode (missing s .outcome) ≡ missingCode s
+unfolding missing
+missed-code s = outcome-code (missingCode s)
+
 direct-reading : (s : State) (y : ℤ) → Works s (result s (Reading y))
 unfolding result step
-direct-reading s y = rw (answer-code (stepCode s y) (residualOf s y)) (reads y (stepCode s y) (λ z. z))
+direct-reading s y = rw (reading-code s y) (reads y (stepCode s y) (λ z. z))
 
 direct-missing : (s : State) → Works s (result s Missing)
 unfolding result missing
-direct-missing s = rw (outcome-code (missingCode s)) (misses (missingCode s) (λ z. z))
+direct-missing s = rw (missed-code s) (misses (missingCode s) (λ z. z))
 
 -- the first `taken` cells are the levels
 batch-numbers : (s : State) (ys cells : List ℤ) → take (length (batchRun s ys (length cells) .levels)) (batchLevels s ys cells) ≡ batchRun s ys (length cells) .levels
@@ -58,18 +66,18 @@ direct-batch : (s : State) (ys cells : List ℤ) → Works s (result s (Batch ys
 unfolding result batch
 direct-batch s ys cells = rw (batch-numbers s ys cells) (takes ys (length cells))
 
-forecast-value : (s : State) (h : ℕ) → forecastCode s h ≡ 0 → answerValue (forecast s h) ≡ forecastOf s h
+pub forecast-answer : (s : State) (h : ℕ) → forecastCode s h ≡ 0 → answerValue (forecast s h) ≡ forecastOf s h
 unfolding forecast
-forecast-value s h z = rw z
+forecast-answer s h z = rw z
 
-forecast-code : (s : State) (h : ℕ) → answerCode (forecast s h) ≡ forecastCode s h
+pub forecast-rejection : (s : State) (h : ℕ) → answerCode (forecast s h) ≡ forecastCode s h
 unfolding forecast
-forecast-code s h = answer-code (forecastCode s h) (forecastOf s h)
+forecast-rejection s h = answer-code (forecastCode s h) (forecastOf s h)
 
 direct-forecast : (s : State) (h : ℕ) → Works s (result s (Forecast h))
 unfolding result
 direct-forecast s h =
-    rw (forecast-code s h) (forecasts-one h (forecastCode s h) (answerValue (forecast s h)) (forecast-value s h))
+    rw (forecast-rejection s h) (forecasts-one h (forecastCode s h) (answerValue (forecast s h)) (forecast-answer s h))
 
 forecasts-numbers : (s : State) (h : ℕ) (cells : List ℤ) → forecastsCode s h (length cells) ≡ 0 → take h (forecastCells s h cells) ≡ forecastList s h
 unfolding forecastCells

@@ -9,7 +9,7 @@ use Rattle.state.specs.States.{check}
 use Rattle.state.specs.declared.State.{State}
 use Rattle.snapshot.specs.Snapshots.{encoded, decoded}
 use Rattle.c_api.specs.LentSnapshots.{lentCode, lentStepBytes, lentMissingBytes}
-use Rattle.traces.specs.Calls.{followed, Call, InPlaceReading, InPlaceMissing, Event, observed, unobserved, series, horizon, horizons, result, sliceOf}
+use Rattle.traces.specs.Calls.{followed, Call, Reading, Missing, Forecast, InPlaceReading, InPlaceMissing, InPlaceForecast, Event, observed, unobserved, series, horizon, horizons, result, sliceOf}
 
 -- the cells that a call filled, or the forecast that it answered
 abbrev pub filled : Event → ℕ
@@ -31,6 +31,15 @@ pub record CallLaw (s : State) (k : Call) : Type 0 where
 
 abbrev pub CallLaws : Type 0
 CallLaws = (s : State) → Passing s → (k : Call) → CallLaw s k
+
+-- in place on its snapshot alone, a call is the direct one
+pub record InPlaceLaw (s : State) : Type 0 where
+  pub reading : (y : ℤ) → result s (InPlaceReading (followed []) y) ≡ result s (Reading y)
+  pub missing : result s (InPlaceMissing (followed [])) ≡ result s Missing
+  pub forecast : (h : ℕ) (old : ℤ) → result s (InPlaceForecast (followed []) h old) ≡ result s (Forecast h)
+
+abbrev pub InPlaceLaws : Type 0
+InPlaceLaws = (s : State) → Passing s → InPlaceLaw s
 
 -- the slice d holds the snapshot of s and nothing else: it is the slice that a list hands to a call in place
 pub record Holds (d : List ℕ) (s : State) : Type 0 where
