@@ -47,12 +47,13 @@ refused =
       season-three = λ h. le→leb _ _ (first (h .0) refl .1 refl);
       damped-one = λ h. le→leb _ _ h;
       damped-two = λ h. le→leb _ _ h;
+      step = λ h. le→leb _ _ h;
       damped-last = λ h. le→leb _ _ h;
     }
 
 attained : Attained
 unfolding creep after beside result check allBelow R dampedTrend seasonDue residualOf newLevel newTrend newSeason newSeasonal nextIndex stepCode step trendAt trendLine seasonAt forecastOf exactDamped exactResidual adjusted exactSeason exactTrendAt exactLine exactForecast exactAfter
-attained = record { half = refl; plain-sixteen = refl; damped-one = refl; damped-eight = leb→le _ _ tt }
+attained = record { half = refl; plain-sixteen = refl; step = leb→le _ _ tt; damped-one = refl; damped-eight = leb→le _ _ tt }
 
 needed : Needed
 unfolding AtMost WithinLimit falling gaps after beside result check allBelow R dampedTrend seasonDue residualOf newLevel newTrend newSeason newSeasonal nextIndex stepCode step missingCode missing trendAt trendLine seasonAt forecastOf forecastCode forecast exactDamped exactResidual adjusted exactSeason exactTrendAt exactLine exactForecast exactAfter expected
@@ -69,7 +70,7 @@ opens : Opening opening
 unfolding check allBelow
 opens = record { cells = refl; passes = refl; trendless = refl }
 
-stepped : StepError (damped 1 (pos 1000000)) (pos 0)
+stepped : StepError (damped 0 1 (pos 0) (pos 1000000)) (pos 0)
 unfolding AtMost R dampedTrend seasonDue residualOf newLevel newTrend newSeason newSeasonal nextIndex exactDamped exactResidual adjusted exactSeason
 stepped = record { level = leb→le _ _ tt; trend = leb→le _ _ tt; seasons = λ k l. absurd (omega arith) }
 

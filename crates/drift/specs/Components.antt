@@ -41,11 +41,15 @@ module _ (c : Parameters) (x : Exact) (y : ℤ) where
 abbrev pub ComponentForms : Type 0
 ComponentForms = (c : Parameters) (x : Exact) (y : ℤ) → ComponentForm c x y
 
--- one step from a state, and the exact one from the same state: at most one unit apart in l, b and each season value
+-- one unit, with an exact number of one step
+abbrev pub OneUnit : ℤ → ℤ → Type 0
+OneUnit z Z = AtMost 1 1 2 z Z
+
+-- one step from a state, and the exact one from the same state, in l, b and each season value
 pub record StepError (s : State) (y : ℤ) : Type 0 where
-  pub level : AtMost 1 1 2 (afterReading s y .level) (exactReading (parametersOf s) (opened s) y .L)
-  pub trend : AtMost 1 1 2 (afterReading s y .trend) (exactReading (parametersOf s) (opened s) y .T)
-  pub seasons : (k : ℕ) → k < s .period → AtMost 1 1 2 (getD (afterReading s y .seasonal) k (pos 0)) (exactReading (parametersOf s) (opened s) y .S k)
+  pub level : OneUnit (afterReading s y .level) (exactReading (parametersOf s) (opened s) y .L)
+  pub trend : OneUnit (afterReading s y .trend) (exactReading (parametersOf s) (opened s) y .T)
+  pub seasons : (k : ℕ) → k < s .period → OneUnit (getD (afterReading s y .seasonal) k (pos 0)) (exactReading (parametersOf s) (opened s) y .S k)
 
 -- of each state that the checks let pass
 abbrev pub StepErrors : Type 0

@@ -9,15 +9,16 @@ use lib.IntN.{ℤ, pos, negsuc}
 use lib.ListN.{length, replicate}
 use Rattle.state.specs.Rejections.{truncated}
 use Rattle.state.specs.declared.State.{State}
+use Rattle.ets.specs.Steps.{afterReading}
 use Rattle.ets.specs.Forecasts.{forecastOf}
 use Rattle.c_api.specs.LentSnapshots.{lentCode}
 use Rattle.traces.specs.Calls.{followed, cut, sliceOf, Call, Reading, Missing, Batch, Forecast, Forecasts, InPlaceReading, InPlaceMissing, InPlaceForecast, result, after}
-use Rattle.drift.specs.Exact.{Parameters, parametersOf, Exact, opened, exactForecast, exactAfter, Expected, level-is, forecast-is, expected}
+use Rattle.drift.specs.Exact.{Parameters, parametersOf, Exact, opened, exactReading, exactForecast, exactAfter, Expected, level-is, forecast-is, expected}
 use Rattle.drift.specs.Limits.{distance, SeasonalBound, WithinLimit, Claim, Opening}
-use Rattle.drift.specs.Components.{StepError}
+use Rattle.drift.specs.Components.{OneUnit, StepError}
 use Rattle.drift.specs.ForecastErrors.{exactFrom, DampedBound}
 
--- ---- states: model, m, A, G, l, the season's values and the count; and one with a damped trend b
+-- ---- states: model, m, A, G, l, the season's values and the count; and one with a damped trend: A, F, l and b
 abbrev pub trendless : ℕ → ℕ → ℕ → ℕ → ℤ → List ℤ → ℕ → State
 trendless model m A G l values count =
     record {
@@ -34,16 +35,16 @@ trendless model m A G l values count =
       count = count;
     }
 
-abbrev pub damped : ℕ → ℤ → State
-damped F b =
+abbrev pub damped : ℕ → ℕ → ℤ → ℤ → State
+damped A F l b =
     record {
       model = 2;
       period = 0;
-      alpha = 0;
+      alpha = A;
       beta = 0;
       gamma = 0;
       phi = F;
-      level = pos 0;
+      level = l;
       trend = b;
       seasonal = replicate 48 (pos 0);
       index = 0;
@@ -79,6 +80,8 @@ pub record Refused : Type 0 where
   -- m + 2m/(γ (1 − α)^m): 2 + 4 × 8 = 34 for m = 2 and α = γ = 1/2; 3 + 6 × 64/27 = 17.2.. for m = 3, α = 1/4, γ = 1
   pub season-two : ClaimOf (trendless 4 2 32768 32768 (pos 34) [] 0) (standing (negsuc 0) 70 0 (pos 0)) (Forecast 1 ∷ []) → ⊥
   pub season-three : ClaimOf (trendless 4 3 16384 65536 (pos 18) [] 0) (standing (pos 0) 36 0 (pos 0)) (Forecast 1 ∷ []) → ⊥
+  -- one unit for a step
+  pub step : OneUnit (pos 0) (pos (65536 ^ 2 + 1)) → ⊥
   -- h × (h + 1)/4 at h = 1, 2 and 512: the least distance above it
   pub damped-one : DampedBound 1 (pos 0) (pos (65536 / 2 + 1)) → ⊥
   pub damped-two : DampedBound 2 (pos 0) (pos (3 * 65536 ^ 2 / 2 + 1)) → ⊥
@@ -102,9 +105,11 @@ pub record Attained : Type 0 where
   -- n/2 after one reading; 1/(2α) = 1 but for a 65,536th after sixteen
   pub half : 2 * creep 1 ≡ 1 * 65536 ^ 2
   pub plain-sixteen : 65536 * creep 16 ≡ 65535 * 65536 ^ 32
+  -- one unit but for a 65,536th: d is 1 for 1/2, and R(A × e) is 1 for 1/2 and a bit
+  pub step : 65535 * 65536 ^ 2 ≤ 65536 * distance 2 (afterReading (damped 1 32768 (pos 32767) (pos 1)) (pos 1) .level) (exactReading (parametersOf (damped 1 32768 (pos 32767) (pos 1))) (opened (damped 1 32768 (pos 32767) (pos 1))) (pos 1) .L)
   -- h × (h + 1)/4: 1/2 at h = 1, and 18 but for 42 65,536ths at h = 8
-  pub damped-one : 4 * distance 1 (forecastOf (damped 65535 (pos 32768)) 1) (exactFrom (damped 65535 (pos 32768)) 1) ≡ 1 * (1 + 1) * 65536 ^ 1
-  pub damped-eight : (18 * 65536 - 42) * 65536 ^ 8 ≤ 65536 * distance 8 (forecastOf (damped 65535 (pos 32768)) 8) (exactFrom (damped 65535 (pos 32768)) 8)
+  pub damped-one : 4 * distance 1 (forecastOf (damped 0 65535 (pos 0) (pos 32768)) 1) (exactFrom (damped 0 65535 (pos 0) (pos 32768)) 1) ≡ 1 * (1 + 1) * 65536 ^ 1
+  pub damped-eight : (18 * 65536 - 42) * 65536 ^ 8 ≤ 65536 * distance 8 (forecastOf (damped 0 65535 (pos 0) (pos 32768)) 8) (exactFrom (damped 0 65535 (pos 0) (pos 32768)) 8)
 
 -- ---- what a list of calls compares, call by call
 unfoldable pub compared : Parameters → State → Exact → List Call → List (List ℤ × List Expected)
@@ -171,7 +176,7 @@ calls =
 
 pub record Shown : Type 0 where
   -- a step whose d is 1,000,000/65536 = 15.2.., rounded to 15
-  pub step : StepError (damped 1 (pos 1000000)) (pos 0)
+  pub step : StepError (damped 0 1 (pos 0) (pos 1000000)) (pos 0)
   pub opens : Opening opening
   pub holds : ClaimOf opening (opened opening) calls
   pub short : lentCode (sliceOf opening (cut 65)) ≡ truncated
