@@ -6,16 +6,14 @@
 pub mod Averages
 pub mod Cycles
 pub mod Spread
--- a state against the exact recursion without trend: R's error, one number, one reading, the invariant that every call keeps, the limits
+-- a state against the exact recursion: R's error, one number, one reading, the invariant that every call keeps, the limits
 pub mod Rounding
 pub mod Errors
-pub mod Flat
 pub mod Readings
 pub mod Invariant
 pub mod ForecastErrors
 pub mod Distances
--- that recursion is the exact one; the calls, and a list of them
-pub mod Scaled
+-- the calls, and a list of them
 pub mod Runs
 pub mod Drift
 -- the component form and one step; the pins

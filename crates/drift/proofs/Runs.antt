@@ -1,61 +1,40 @@
 -- The invariant holds after every call and every list of calls, and each number answered is within its limit.
-use mathlib.Core.Path.{_≡_, refl, sym, _∙_, ap, subst}
+use mathlib.Core.Path.{_≡_, refl, ap, subst}
 use mathlib.Core.Bool.{Bool, true, false, cond}
 use mathlib.Core.List.{List, [], _∷_, _++_}
-use Prim.Native.Nat.{ℕ, zero, suc, _+_, _*_, _<_}
+use Prim.Native.Nat.{ℕ, zero, suc, _<_}
 use native.Mathlib.Omega.{arith}
 use lib.Dec.{eqb}
 use lib.IntN.{ℤ, pos}
 use lib.ListN.{length, take, getD}
 use Rattle.state.specs.Fixed.{isSentinel}
 use Rattle.state.specs.Models.{hasSeason}
-use Rattle.state.specs.States.{check}
 use Rattle.state.specs.declared.State.{State}
-use Rattle.state.proofs.Passing.{no-trend, no-season}
+use Rattle.state.proofs.Passing.{no-season}
 use Rattle.ets.specs.Steps.{stepCode, missingCode, afterReading, afterMissing}
 use Rattle.ets.specs.Batches.{Run, run, halted, preceded, takeCode, afterTake, batchCode, batchRun}
 use Rattle.ets.specs.Forecasts.{forecastOf, forecastList}
 use Rattle.ets.proofs.Kept.{reading-kept, missing-kept}
-use Rattle.traces.specs.Calls.{Call, Result, observed, unobserved, horizon, horizons, answered, result}
+use Rattle.traces.specs.Calls.{Call, Result, result}
 use Rattle.traces.proofs.Results.{by-code, Works, reads, misses, takes, forecasts-one, forecasts-all, works}
 use Rattle.drift.specs.Exact.{Parameters, parametersOf, Exact, exactReading, exactMissing, exactTake, exactBatch, exactAfter, Expected, expectedForecast, expectedForecasts, expectedLevels, expected}
-use Rattle.drift.specs.Limits.{HalfPerReading, PlainBound, SeasonalBound, WithinLimit, EachWithin, none, more, StateWithin, Claim}
-use Rattle.drift.proofs.Flat.{Flat, flatReading, flatMissing, flatForecast}
+use Rattle.drift.specs.Limits.{HalfPerReading, WithinLimit, EachWithin, none, more, StateWithin, Claim}
 use Rattle.drift.proofs.Readings.{valueAt}
 use Rattle.drift.proofs.Invariant.{Good, good-reading, good-missing}
-use Rattle.drift.proofs.Distances.{level-half, value-half, plain-close, seasonal-close}
-use Rattle.drift.proofs.Scaled.{Trendless, Scaled, scaled-reading, scaled-missing, forecast-scaled, at-level, at-horizon}
+use Rattle.drift.proofs.Distances.{level-half, value-half, forecast-close}
 
 -- ---- the invariant, with the parameters that the opening state had
-pub record Kept (c : Parameters) (s : State) (x : Exact) : Type 0 where
-  pub same : parametersOf s ≡ c
-  pub flat : Flat
-  pub good : Good c s flat
-  pub scaled : Scaled x flat
+abbrev pub Kept : Parameters → State → Exact → Type 0
+Kept c s x = (parametersOf s ≡ c) × Good c s x
 
 module _ (c : Parameters) (s : State) (x : Exact) (w : Kept c s x) where
-  trendless : Trendless c
-  trendless =
-      let t = no-trend s (w .good .passes) (w .good .flat) in
-      subst Trendless (w .same) (record { trended = w .good .flat; beta = t .beta; phi = t .phi })
-
-  pub kept-reading : (y : ℤ) → stepCode s y ≡ 0 → Kept c (afterReading s y) (exactReading c x y)
+  kept-reading : (y : ℤ) → stepCode s y ≡ 0 → Kept c (afterReading s y) (exactReading c x y)
   kept-reading y z =
-      record {
-        same = w .same;
-        flat = flatReading c (w .flat) y;
-        good = subst (λ (c : Parameters). Good c s (w .flat) → Good c (afterReading s y) (flatReading c (w .flat) y)) (w .same) (λ g. good-reading s (w .flat) g y (reading-kept s y (g .cells) z)) (w .good);
-        scaled = scaled-reading c trendless x (w .flat) (w .scaled) y;
-      }
+      (w .0, subst (λ (c : Parameters). Good c s x → Good c (afterReading s y) (exactReading c x y)) (w .0) (λ g. good-reading s x g y (reading-kept s y (g .cells) z)) (w .1))
 
-  pub kept-missing : missingCode s ≡ 0 → Kept c (afterMissing s) (exactMissing c x)
+  kept-missing : missingCode s ≡ 0 → Kept c (afterMissing s) (exactMissing c x)
   kept-missing z =
-      record {
-        same = w .same;
-        flat = flatMissing c (w .flat);
-        good = subst (λ (c : Parameters). Good c s (w .flat) → Good c (afterMissing s) (flatMissing c (w .flat))) (w .same) (λ g. good-missing s (w .flat) g (missing-kept s z)) (w .good);
-        scaled = scaled-missing c trendless x (w .flat) (w .scaled);
-      }
+      (w .0, subst (λ (c : Parameters). Good c s x → Good c (afterMissing s) (exactMissing c x)) (w .0) (λ g. good-missing s x g (missing-kept s z)) (w .1))
 
   kept-take : (y : ℤ) → takeCode s y ≡ 0 → Kept c (afterTake s y) (exactTake c x y)
   unfolding takeCode afterTake exactTake
@@ -65,16 +44,8 @@ module _ (c : Parameters) (s : State) (x : Exact) (w : Kept c s x) where
       go true = kept-missing
       go false = kept-reading y
 
-  -- ---- the limits
-  level-within : HalfPerReading (x .n) (s .level) (x .L)
-  level-within =
-      rw (w .scaled .L, w .scaled .n)
-      (rw (w .scaled .n) at (at-level c trendless x (w .flat) (w .scaled) (w .flat .n) 2 (s .level) (w .flat .L) (level-half c s (w .flat) (w .good))))
-
-  value-within : (k : ℕ) → HalfPerReading (x .n) (valueAt s k) (x .S k)
-  value-within k =
-      rw (w .scaled .S k, w .scaled .n)
-      (rw (w .scaled .n) at (at-level c trendless x (w .flat) (w .scaled) (w .flat .n) 2 (valueAt s k) (w .flat .S k) (value-half c s (w .flat) (w .good) k)))
+  forecast-within : (h : ℕ) → WithinLimit c (forecastOf s h) (expectedForecast c x h)
+  forecast-within h = subst (λ (c : Parameters). Good c s x → WithinLimit c (forecastOf s h) (expectedForecast c x h)) (w .0) (forecast-close s x h) (w .1)
 
   -- each of the m season values
   value-is : (k : ℕ) → k < s .period → valueAt s k ≡ getD (s .seasonal) k (pos 0)
@@ -82,28 +53,14 @@ module _ (c : Parameters) (s : State) (x : Exact) (w : Kept c s x) where
     where
       go : (b : Bool) → hasSeason (s .model) ≡ b → cond b (getD (s .seasonal) k (pos 0)) (pos 0) ≡ getD (s .seasonal) k (pos 0)
       go true e = refl
-      go false e = absurd (omega (arith, no-season s (w .good .passes) e .period))
+      go false e = absurd (omega (arith, no-season s (w .1 .passes) e .period))
 
-  pub state-within : StateWithin c s x
+  state-within : StateWithin c s x
   state-within =
       record {
-        level = level-within;
-        seasons = λ k l. subst (λ (v : ℤ). HalfPerReading (x .n) v (x .S k)) (value-is k (omega (arith, ap (λ (p : Parameters). p .period) (w .same)))) (value-within k);
+        level = level-half c s x (w .1);
+        seasons = λ k l. subst (λ (v : ℤ). HalfPerReading (x .n) v (x .S k)) (value-is k (omega (arith, ap (λ (p : Parameters). p .period) (w .0)))) (value-half c s x (w .1) k);
       }
-
-  forecast-within : (h : ℕ) → WithinLimit c (forecastOf s h) (expectedForecast c x h)
-  unfolding WithinLimit
-  forecast-within h z =
-      rw (forecast-scaled c trendless x (w .flat) (w .scaled) h) (
-        (λ e. at-horizon c trendless x (w .flat) (w .scaled) h 65536 (2 * c .alpha) (forecastOf s h) (flatForecast c (w .flat) h) (plain-flat e)),
-        (λ e. at-horizon c trendless x (w .flat) (w .scaled) h _ _ (forecastOf s h) (flatForecast c (w .flat) h) (seasonal-flat e)),
-      )
-    where
-      plain-flat : c .seasonal ≡ false → PlainBound c (w .flat .n) (forecastOf s h) (flatForecast c (w .flat) h)
-      plain-flat = subst (λ (c : Parameters). Good c s (w .flat) → c .seasonal ≡ false → PlainBound c (w .flat .n) (forecastOf s h) (flatForecast c (w .flat) h)) (w .same) (plain-close s (w .flat) h) (w .good)
-
-      seasonal-flat : c .seasonal ≡ true → SeasonalBound c (w .flat .n) (forecastOf s h) (flatForecast c (w .flat) h)
-      seasonal-flat e = subst (λ (c : Parameters). Good c s (w .flat) → c .seasonal ≡ true → w .flat .missed ≡ 0 → SeasonalBound c (w .flat .n) (forecastOf s h) (flatForecast c (w .flat) h)) (w .same) (seasonal-close s (w .flat) h) (w .good) e (sym (w .scaled .missed) ∙ z)
 
 -- what a call leaves
 abbrev pub Fine : Parameters → Exact → Result → Type 0
@@ -124,7 +81,7 @@ left-halted c s x ys n w = (w, none)
 
 left-preceded : (c : Parameters) (s : State) (x : Exact) (y : ℤ) (ys : List ℤ) (r : Run) → Kept c s (exactTake c x y) → Left c (exactTake c x y) ys r → Left c x (y ∷ ys) (preceded (s .level) r)
 unfolding exactBatch expectedLevels WithinLimit
-left-preceded c s x y ys r w u = (u .0, more (level-within c s (exactTake c x y) w) (u .1))
+left-preceded c s x y ys r w u = (u .0, more (level-half c s (exactTake c x y) (w .1)) (u .1))
 
 left-run : (c : Parameters) (ys : List ℤ) (s : State) (x : Exact) → Kept c s x → Left c x ys (run s ys)
 unfolding run
@@ -164,7 +121,7 @@ module _ (c : Parameters) (s : State) (x : Exact) (w : Kept c s x) where
       (w, by-code (λ b. EachWithin c (cond b zs []) (cond b (expectedForecasts c x h) [])) n (λ z. rw (f z) (all-within h)) none)
 
   fine-call : (k : Call) → Fine c x (result s k)
-  fine-call k = fine-works (works s (w .good .cells) (w .good .passes) k)
+  fine-call k = fine-works (works s (w .1 .cells) (w .1 .passes) k)
 
 -- ---- a list of calls
 pub claim : (c : Parameters) (ks : List Call) (s : State) (x : Exact) → Kept c s x → Claim c s x ks
