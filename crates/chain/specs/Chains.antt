@@ -1,12 +1,10 @@
 -- A reading and then a forecast from an opening state, as a caller sees it: what it is answered is within demand 3's limits of the exact recursion.
 use Prim.Native.Nat.{ℕ}
 use mathlib.Core.Bool.{cond}
-use mathlib.Core.List.{List, [], _∷_}
+use mathlib.Core.List.{[], _∷_}
 use lib.Dec.{eqb}
 use lib.IntN.{ℤ}
-use Rattle.state.specs.Rejections.{answerCode, answerValue}
 use Rattle.state.specs.declared.State.{State}
-use Rattle.state.specs.declared.Answer.{Answer}
 use Rattle.traces.specs.Calls.{Call, horizon, result}
 use Rattle.drift.specs.Exact.{parametersOf, opened, exactAfter, expected}
 use Rattle.drift.specs.Limits.{EachWithin, Opening}

@@ -1,11 +1,11 @@
 -- The pins, computed.
-use mathlib.Core.Path.{_≡_, refl}
+use mathlib.Core.Path.{refl}
 use mathlib.Core.List.{List, [], _∷_}
-use Prim.Native.Nat.{ℕ, zero, suc, _+_, _*_, _^_, _≤_, _<_}
+use Prim.Native.Nat.{ℕ, _<_}
 use native.Mathlib.Omega.{arith}
 use lib.Dec.{le→leb, leb→le}
 use lib.IntN.{ℤ, pos}
-use lib.ListN.{getD, replicate, getD-replicate}
+use lib.ListN.{getD-replicate}
 use borrow.Author.Tests.{eq-eqb}
 use Rattle.state.specs.Fixed.{R}
 use Rattle.state.specs.States.{check, allBelow}
@@ -16,8 +16,8 @@ use Rattle.snapshot.specs.Bytes.{fromBytes, toBytes}
 use Rattle.snapshot.specs.Snapshots.{isCommand, dueCode, modelCode, levelCode, seasonCode, seasonsCode, positionCode, openCode, openOffset, cellsAt, decoded, modelBytes, levelBytes, seasonBytes, seasonsBytes, positionBytes, encoded}
 use Rattle.c_api.specs.LentSnapshots.{lentCode, lentStepCode, lentStepBytes, lentMissingCode, lentMissingBytes, lentForecastCode, lentForecast}
 use Rattle.traces.specs.Calls.{result, after}
-use Rattle.drift.specs.Exact.{Parameters, opened, exactDamped, exactResidual, adjusted, exactSeason, exactTake, exactBatch, exactTrendAt, exactLine, exactForecast, exactAfter, Expected, expectedLevels, expectedForecasts, expected}
-use Rattle.drift.specs.Limits.{AtMost, WithinLimit, EachWithin, none, more, Claim, Opening}
+use Rattle.drift.specs.Exact.{Parameters, exactDamped, exactResidual, adjusted, exactSeason, exactTake, exactBatch, exactTrendAt, exactLine, exactForecast, exactAfter, Expected, expectedLevels, expectedForecasts, expected}
+use Rattle.drift.specs.Limits.{AtMost, WithinLimit, EachWithin, more, Claim, Opening}
 use Rattle.drift.specs.Components.{StepError}
 use Rattle.drift.specs.Pins.{trendless, damped, standing, ClaimOf, Refused, beside, creep, Attained, compared, falling, gaps, Needed, opening, calls, Shown, Pins}
 use Rattle.drift.proofs.Drift.{demand3}

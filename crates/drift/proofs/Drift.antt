@@ -1,5 +1,5 @@
 -- Demand 3: from any state of a trendless model that the checks let pass, every list of calls stays within the limits.
-use mathlib.Core.Path.{_≡_, refl, ap}
+use mathlib.Core.Path.{refl, ap}
 use Prim.Native.Nat.{ℕ, _*_, _-_}
 use native.Mathlib.Omega.{arith}
 use Rattle.state.specs.declared.State.{State}

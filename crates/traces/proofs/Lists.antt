@@ -19,8 +19,8 @@ use Rattle.snapshot.proofs.RoundTrip.{accepted-passes, accepted-size, length-de
 use Rattle.snapshot.proofs.Patches.{whole}
 use Rattle.c_api.specs.LentSnapshots.{lentCode, lentStepBytes, lentMissingBytes}
 use Rattle.c_api.proofs.LentLaws.{lent, step-code, step-bytes, step-state, missing-code, missing-bytes, missing-state, forecast-code, forecast-value}
-use Rattle.traces.specs.Calls.{followed, Call, Reading, Missing, Forecast, InPlaceReading, InPlaceMissing, InPlaceForecast, horizon, Result, result, sliceOf}
-use Rattle.traces.specs.Laws.{filled, Passing, CallLaw, CallLaws, InPlaceLaw, InPlaceLaws, Holds, SliceLaws}
+use Rattle.traces.specs.Calls.{followed, Reading, Missing, Forecast, InPlaceReading, InPlaceMissing, InPlaceForecast, horizon, Result, result}
+use Rattle.traces.specs.Laws.{filled, Passing, CallLaws, InPlaceLaws, Holds, SliceLaws}
 use Rattle.traces.proofs.Slices.{too-short}
 use Rattle.traces.proofs.Results.{by-code, Works, reads, misses, takes, forecasts-one, forecasts-all, works, cells-after, reading-code, missed-code, forecast-rejection, forecast-answer}
 
