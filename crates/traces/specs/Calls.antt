@@ -1,7 +1,11 @@
 -- Document 01, "One step": a list of calls, run by the definitions that the calls' contracts cite.
--- Its words and the names here:
---   group    snapshot        refused   rejected       mark   sentinel (a missing reading in a slice)
---   place    seasonal index  told      an Event       lent group: a call in place, on a slice of bytes
+-- The paper's words, and the names here:
+--   group          snapshot, the encoding of a state
+--   lent group     in place: a call on a slice of bytes that holds a snapshot
+--   refused        rejected
+--   mark           sentinel, a missing reading in a slice
+--   place          seasonal index
+--   e              residual
 use Prim.Native.Nat.{ℕ}
 use mathlib.Core.Bool.{Bool, cond}
 use mathlib.Core.List.{List, [], _∷_, _++_}
