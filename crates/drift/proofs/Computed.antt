@@ -19,14 +19,14 @@ use Rattle.traces.specs.Calls.{result, after}
 use Rattle.drift.specs.Exact.{Parameters, exactDamped, exactResidual, adjusted, exactSeason, exactTake, exactBatch, exactTrendAt, exactLine, exactForecast, exactAfter, Expected, expectedLevels, expectedForecasts, expected}
 use Rattle.drift.specs.Limits.{AtMost, WithinLimit, EachWithin, more, Claim, Opening}
 use Rattle.drift.specs.Components.{StepError}
-use Rattle.drift.specs.Pins.{trendless, damped, standing, ClaimOf, Refused, beside, creep, Attained, compared, falling, gaps, Needed, opening, calls, Shown, Pins}
+use Rattle.drift.specs.Pins.{seasonal, damped, standing, ClaimOf, Refused, beside, creep, Attained, compared, falling, gaps, Needed, opening, calls, Shown, Pins}
 use Rattle.drift.proofs.Drift.{demand3}
 
 -- the first comparison of an answer
 first : {c : Parameters} {z : ℤ} {e : Expected} {zs : List ℤ} {es : List Expected} → EachWithin c (z ∷ zs) (e ∷ es) → WithinLimit c z e
 first (more h u) = h
 
-place-refused : (k : ℕ) → k < 48 → ClaimOf (trendless 4 48 32768 32768 (pos 0) [] 0) (standing (pos 0) 0 k (pos 1)) [] → ⊥
+place-refused : (k : ℕ) → k < 48 → ClaimOf (seasonal 48 32768 32768 (pos 0) []) (standing (pos 0) 0 k (pos 1)) [] → ⊥
 unfolding Claim AtMost
 place-refused k l h =
     le→leb 2 0 (rw (getD-replicate 48 k (pos 0) (pos 0) l, eq-eqb k k refl) at (h .seasons k l))

@@ -18,42 +18,33 @@ use Rattle.drift.specs.Limits.{distance, SeasonalBound, WithinLimit, Cla
 use Rattle.drift.specs.Components.{OneUnit, StepError}
 use Rattle.drift.specs.ForecastErrors.{exactFrom, DampedBound}
 
--- ---- states: model, m, A, G, l, the season's values and the count; and one with a damped trend: A, F, l and b
-abbrev pub trendless : ℕ → ℕ → ℕ → ℕ → ℤ → List ℤ → ℕ → State
-trendless model m A G l values count =
+-- ---- states: model, m, A, B, G, F, l, b, the season's values, the count; at place 0
+abbrev pub stateOf : ℕ → ℕ → ℕ → ℕ → ℕ → ℕ → ℤ → ℤ → List ℤ → ℕ → State
+stateOf model m A B G F l b values count =
     record {
       model = model;
       period = m;
       alpha = A;
-      beta = 0;
+      beta = B;
       gamma = G;
-      phi = 0;
+      phi = F;
       level = l;
-      trend = pos 0;
+      trend = b;
       seasonal = values ++ replicate (48 - length values) (pos 0);
       index = 0;
       count = count;
     }
 
+-- a season of m places; a damped trend
+abbrev pub seasonal : ℕ → ℕ → ℕ → ℤ → List ℤ → State
+seasonal m A G l values = stateOf 4 m A 0 G 0 l (pos 0) values 0
+
 abbrev pub damped : ℕ → ℕ → ℤ → ℤ → State
-damped A F l b =
-    record {
-      model = 2;
-      period = 0;
-      alpha = A;
-      beta = 0;
-      gamma = 0;
-      phi = F;
-      level = l;
-      trend = b;
-      seasonal = replicate 48 (pos 0);
-      index = 0;
-      count = 0;
-    }
+damped A F l b = stateOf 2 0 A 0 0 F l b [] 0
 
 -- α = 1/2, so that 1/(2α) is 1
 abbrev pub plain : ℤ → State
-plain l = trendless 0 0 32768 0 l [] 0
+plain l = stateOf 0 0 32768 0 0 0 l (pos 0) [] 0
 
 -- an exact recursion that stands at L and n, with S at one place (the others are 0)
 abbrev pub standing : ℤ → ℕ → ℕ → ℤ → Exact
@@ -68,7 +59,7 @@ pub record Refused : Type 0 where
   pub level-one : ClaimOf (plain (pos 1)) (standing (pos (65536 ^ 2 / 2 - 1)) 1 0 (pos 0)) [] → ⊥
   pub level-three : ClaimOf (plain (pos 2)) (standing (pos (65536 ^ 6 / 2 - 1)) 3 0 (pos 0)) [] → ⊥
   -- each of 48 places: S is 1, the season value 0
-  pub places : (k : ℕ) → k < 48 → ClaimOf (trendless 4 48 32768 32768 (pos 0) [] 0) (standing (pos 0) 0 k (pos 1)) [] → ⊥
+  pub places : (k : ℕ) → k < 48 → ClaimOf (seasonal 48 32768 32768 (pos 0) []) (standing (pos 0) 0 k (pos 1)) [] → ⊥
   -- the first of a batch's two levels is 1 from L at n = 1; the second is 1 from it at n = 2
   pub cell : ClaimOf (plain (pos 2)) (standing (pos 0) 0 0 (pos 0)) (Batch (pos 0 ∷ pos 0 ∷ []) (replicate 2 (pos 0)) ∷ []) → ⊥
   -- 1/(2α) = 1 by each call that forecasts: l is 1, L just below 0, and n/2 is 2
@@ -78,8 +69,8 @@ pub record Refused : Type 0 where
   -- the exact recursion goes on from call to call: after a rejected one it stands where it stood
   pub carried : ClaimOf (plain (pos 1)) (standing (negsuc 0) 4 0 (pos 0)) (Forecast 513 ∷ Forecast 1 ∷ []) → ⊥
   -- m + 2m/(γ (1 − α)^m): 2 + 4 × 8 = 34 for m = 2 and α = γ = 1/2; 3 + 6 × 64/27 = 17.2.. for m = 3, α = 1/4, γ = 1
-  pub season-two : ClaimOf (trendless 4 2 32768 32768 (pos 34) [] 0) (standing (negsuc 0) 70 0 (pos 0)) (Forecast 1 ∷ []) → ⊥
-  pub season-three : ClaimOf (trendless 4 3 16384 65536 (pos 18) [] 0) (standing (pos 0) 36 0 (pos 0)) (Forecast 1 ∷ []) → ⊥
+  pub season-two : ClaimOf (seasonal 2 32768 32768 (pos 34) []) (standing (negsuc 0) 70 0 (pos 0)) (Forecast 1 ∷ []) → ⊥
+  pub season-three : ClaimOf (seasonal 3 16384 65536 (pos 18) []) (standing (pos 0) 36 0 (pos 0)) (Forecast 1 ∷ []) → ⊥
   -- one unit for a step
   pub step : OneUnit (pos 0) (pos (65536 ^ 2 + 1)) → ⊥
   -- h × (h + 1)/4 at h = 1, 2 and 512: the least distance above it
@@ -120,7 +111,7 @@ compared c s x (k ∷ ks) =
 
 -- ---- what the limits leave out. α is 1/65536 and γ is 1; the first residual is 32767 above a whole number of reading units, so that R rounds down by nearly half a unit
 abbrev pub creeping : ℤ → State
-creeping s1 = trendless 4 2 1 65536 (pos 0) (negsuc 32766 ∷ s1 ∷ []) 0
+creeping s1 = seasonal 2 1 65536 (pos 0) (negsuc 32766 ∷ s1 ∷ [])
 
 -- n pairs of readings from −16384 × j and −16383 × j on: each is rounded down again
 unfoldable pub falling : ℕ → ℕ → List Call
@@ -156,7 +147,7 @@ pub record Needed : Type 0 where
 -- ---- a run with every kind of call, from a count of 2^48 − 5: rejected are the reading 1,000,001 (13), the forecast at 513 (11), the call in place with a byte
 -- after the snapshot (3) and the one with a byte too few (4), the batch at its third reading (13), and the last reading, for the count is then full (14)
 abbrev pub opening : State
-opening = trendless 4 2 20000 30001 (pos 0) (pos 65536 ∷ negsuc 65535 ∷ []) 281474976710651
+opening = stateOf 4 2 20000 0 30001 0 (pos 0) (pos 0) (pos 65536 ∷ negsuc 65535 ∷ []) 281474976710651
 
 unfoldable pub calls : List Call
 calls =
