@@ -29,7 +29,7 @@ first (more h u) = h
 place-refused : (k : ℕ) → k < 48 → ClaimOf (seasonal 48 32768 32768 (pos 0) []) (standing (pos 0) 0 k (pos 1)) [] → ⊥
 unfolding Claim AtMost
 place-refused k l h =
-    le→leb 2 0 (rw (getD-replicate 48 k (pos 0) (pos 0) l, eq-eqb k k refl) at (h .seasons k l))
+    le→leb 2 0 (rw (getD-replicate 48 k (pos 0) (pos 0) l, eq-eqb k k refl) at (h .seasons k (omega arith)))
 
 refused : Refused
 unfolding Claim AtMost WithinLimit result check allBelow R dampedTrend seasonDue residualOf newLevel newTrend newSeason newSeasonal nextIndex stepCode takeCode afterTake run batchRun batch batchLevels trendAt trendLine seasonAt forecastOf forecastCode forecast forecastList forecastsCode forecasts forecastCells fromBytes toBytes isCommand dueCode modelCode levelCode seasonCode seasonsCode positionCode openCode openOffset cellsAt decoded modelBytes levelBytes seasonBytes seasonsBytes positionBytes encoded lentCode lentForecastCode lentForecast exactDamped exactResidual adjusted exactSeason exactTake exactTrendAt exactLine exactForecast expectedLevels expectedForecasts exactAfter expected
