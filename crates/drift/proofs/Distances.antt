@@ -1,13 +1,14 @@
 -- From the invariant to the limits: a level, a season value, a forecast.
-use mathlib.Core.Path.{_≡_, sym, ap}
+use mathlib.Core.Path.{_≡_, refl, sym, ap}
 use mathlib.Core.Bool.{Bool, true, false, cond, false≢true}
-use Prim.Native.Nat.{ℕ, suc, _+_, _*_, _-_, _%_, _^_, _≤_, _<_}
-use native.Mathlib.Nat.{mod-lt, le-of-lt, pow-suc}
+use Prim.Native.Nat.{ℕ, zero, suc, _+_, _*_, _-_, _%_, _^_, _≤_, _<_}
+use native.Mathlib.Nat.{mul-comm, mul-le-mul-left, le-of-mul-le-mul-left, mod-lt, le-of-lt, pow-zero, pow-suc, pow-succ', one-le-pow}
+use lib.Pow.{pow-add}
 use native.Mathlib.Decide.{decLe}
 use native.Mathlib.Omega.{arith}
-use lib.IntN.{ℤ, pos, negsuc, natAbs, _+ℤ_, _-ℤ_, _*ℤ_}
+use lib.IntN.{ℤ, pos, negsuc, negℤ, natAbs, _+ℤ_, _-ℤ_, _*ℤ_, zero-*ℤ}
 use lib.ListN.{getD}
-use Rattle.integers.proofs.Difference.{sum, minus, scaled}
+use Rattle.integers.proofs.Difference.{diff, known, sum, minus, scaled}
 use Rattle.state.specs.Models.{hasSeason}
 use Rattle.state.specs.declared.State.{State}
 use Rattle.ets.specs.Forecasts.{seasonAt, forecastOf}
@@ -18,24 +19,24 @@ use Rattle.state.proofs.Passing.{no-trend, with-season}
 use Rattle.drift.proofs.Readings.{power, valueAt, levelErr, placeErr}
 use Rattle.drift.proofs.ForecastErrors.{flat-line}
 use Rattle.drift.proofs.Invariant.{Good}
-use Rattle.drift.specs.Exact.{Parameters, Exact, parametersOf, exactForecast, expectedForecast}
-use Rattle.drift.specs.Limits.{distance, HalfPerReading, PlainBound, divisor, SeasonalBound, WithinLimit}
+use Rattle.drift.specs.Exact.{Parameters, parametersOf, Exact, exactTrendAt, exactLine, exactForecast, expectedForecast}
+use Rattle.drift.specs.Limits.{AtMost, HalfPerReading, PlainBound, divisor, SeasonalBound, WithinLimit}
 
 -- c |z| ≤ e where z is d
 sized : (c e : ℕ) (z : ℤ) (d : D) → Same (parts z) d → c * d .0 ≤ c * d .1 + e → c * d .1 ≤ c * d .0 + e → c * natAbs z ≤ e
 sized c e (pos n) d s h k = omega (arith, ap (λ (z : ℕ). c * z) s)
 sized c e (negsuc n) d s h k = omega (arith, ap (λ (z : ℕ). c * z) s)
 
-within : (c e n : ℕ) (z Z : ℤ) (d : D) → Same (err (65536 ^ n) (parts z) (parts Z)) d → c * d .0 ≤ c * d .1 + e → c * d .1 ≤ c * d .0 + e → c * distance n z Z ≤ e
-unfolding distance
-within c e n z Z d s h k = sized c e (pos (65536 ^ n) *ℤ z -ℤ Z) d (difference (65536 ^ n) s) h k
+within : (num den n : ℕ) (z Z : ℤ) (d : D) → Same (err (65536 ^ n) (parts z) (parts Z)) d → den * d .0 ≤ den * d .1 + num * 65536 ^ n → den * d .1 ≤ den * d .0 + num * 65536 ^ n → AtMost num den n z Z
+unfolding AtMost
+within num den n z Z d s h k =
+    sized den (num * 65536 ^ n) (pos (65536 ^ n) *ℤ z -ℤ Z) d (difference (65536 ^ n) s) h k
   where
     difference : (P : ℕ) → Same (err P (parts z) (parts Z)) d → Same (parts (pos P *ℤ z -ℤ Z)) d
     difference P s = omega (arith, minus (pos P *ℤ z) Z, scaled P z)
 
-half : (n : ℕ) (z Z : ℤ) → Both (n * 65536 ^ n) (err (65536 ^ n) (parts z) (parts Z)) zeroD → HalfPerReading n z Z
-unfolding HalfPerReading
-half n z Z w = omega (arith, within 2 (n * 65536 ^ n) n z Z (err (65536 ^ n) (parts z) (parts Z)) (omega arith) (omega arith) (omega arith))
+half : (n : ℕ) (z Z : ℤ) → Both (n * 65536 ^ (2 * n)) (err (65536 ^ (2 * n)) (parts z) (parts Z)) zeroD → HalfPerReading n z Z
+half n z Z w = within n 2 (2 * n) z Z (err (65536 ^ (2 * n)) (parts z) (parts Z)) (omega arith) (omega arith) (omega arith)
 
 pub level-half : (c : Parameters) (s : State) (x : Exact) → Good c s x → HalfPerReading (x .n) (s .level) (x .L)
 level-half c s x w = half (x .n) (s .level) (x .L) (w .level)
@@ -45,7 +46,7 @@ value-half c s x w k = half (x .n) (valueAt s k) (x .S k) (w .places k .1, w .pl
 
 -- ---- a limit that divides by 0
 unlimited : (c : Parameters) (n : ℕ) (z Z : ℤ) → divisor c ≡ 0 → SeasonalBound c n z Z
-unfolding SeasonalBound
+unfolding AtMost
 unlimited c n z Z h = rw h (omega arith)
 
 zero-power : (n : ℕ) → 0 < n → 0 ^ n ≡ 0
@@ -64,6 +65,66 @@ seasonal : (b : Bool) (Kn : ℕ) (v S : ℤ) (u d : D) → b ≡ true → Same u
 seasonal true Kn v S u d h e = e
 seasonal false Kn v S u d h e = absurd (false≢true h)
 
+-- the invariant has the gains times 65536, and 65536 squared for one
+narrower : (A P u v : ℕ) → 2 * (65536 * A) * u ≤ 2 * (65536 * A) * v + 4294967296 * P → 2 * A * u ≤ 2 * A * v + 65536 * P
+narrower A P u v h = omega arith
+
+pow-mul : (a b n : ℕ) → (a * b) ^ n ≡ a ^ n * b ^ n
+pow-mul a b zero = rw (pow-zero (a * b), pow-zero a, pow-zero b)
+pow-mul a b (suc n) = rw (pow-suc (a * b) n, pow-suc a n, pow-suc b n, pow-mul a b n) (ring (a ^ n) (b ^ n))
+  where
+    ring : (p q : ℕ) → p * q * (a * b) ≡ p * a * (q * b)
+    ring p q = omega arith
+
+narrow : (G B m P u v : ℕ) → 65536 * G * (65536 * B) ^ m * u ≤ 65536 * G * (65536 * B) ^ m * v + (m * (65536 * G * (65536 * B) ^ m) + m * 4294967296 ^ suc m) * P → G * B ^ m * u ≤ G * B ^ m * v + (m * (G * B ^ m) + m * 65536 ^ suc m) * P
+narrow G B m P u v h =
+    rw (pow-suc 65536 m)
+    (go (65536 ^ m) (B ^ m) (one-le-pow m 65536 (omega arith)) (rw (pow-mul 65536 B m, pow-mul 65536 65536 (suc m), pow-suc 65536 m) at h))
+  where
+    go : (q b : ℕ) → 0 < q → 65536 * G * (q * b) * u ≤ 65536 * G * (q * b) * v + (m * (65536 * G * (q * b)) + m * (q * 65536 * (q * 65536))) * P → G * b * u ≤ G * b * v + (m * (G * b) + m * (q * 65536)) * P
+    go q b z h = le-of-mul-le-mul-left (ring h) z
+      where
+        ring : 65536 * G * (q * b) * u ≤ 65536 * G * (q * b) * v + (m * (65536 * G * (q * b)) + m * (q * 65536 * (q * 65536))) * P → q * (G * b * u) ≤ q * (G * b * v + (m * (G * b) + m * (q * 65536)) * P)
+        ring h = omega arith
+
+-- ---- a limit over another power
+turned : (n : ℕ) → natAbs (negℤ (pos n)) ≡ n
+turned zero = refl
+turned (suc n) = refl
+
+times : (Q : ℕ) (z : ℤ) → natAbs (pos Q *ℤ z) ≡ Q * natAbs z
+times Q (pos a) = refl
+times Q (negsuc a) = turned (Q * suc a)
+
+apart : (Q P : ℕ) (z Z : ℤ) → pos (Q * P) *ℤ z -ℤ pos Q *ℤ Z ≡ pos Q *ℤ (pos P *ℤ z -ℤ Z)
+apart Q P z Z = rw (known z, known Z) (simp diff (omega arith))
+
+stretch : (num den k h : ℕ) (z Z : ℤ) → AtMost num den k z Z → AtMost num den (k + h) z (pos (65536 ^ h) *ℤ Z)
+unfolding AtMost
+stretch num den k h z Z b =
+    rw (pow-add 65536 k h, mul-comm (65536 ^ k) (65536 ^ h), apart (65536 ^ h) (65536 ^ k) z Z, times (65536 ^ h) (pos (65536 ^ k) *ℤ z -ℤ Z))
+    (more-of (65536 ^ h) (natAbs (pos (65536 ^ k) *ℤ z -ℤ Z)) (65536 ^ k) b)
+  where
+    more-of : (Q a P : ℕ) → den * a ≤ num * P → den * (Q * a) ≤ num * (Q * P)
+    more-of Q a P h = omega (arith, mul-le-mul-left Q h)
+
+-- without trend the exact forecast is L and the season's value, brought to its power
+line-law : (Q : ℕ) (z d : ℤ) → d ≡ pos 0 → pos 65536 *ℤ (pos Q *ℤ z) +ℤ d ≡ pos (65536 * Q) *ℤ z
+line-law Q z d h = rw (h, known z) (simp diff (omega arith))
+
+no-trend-at : (F : ℕ) (b : ℤ) (j : ℕ) → F ≡ 0 → exactTrendAt F b (suc j) ≡ pos 0
+unfolding exactTrendAt
+no-trend-at F b j h = rw h (zero-*ℤ (exactTrendAt 0 b j))
+
+line-is : (c : Parameters) (x : Exact) → c .phi ≡ 0 → (h : ℕ) → exactLine c x h ≡ pos (65536 ^ h) *ℤ x .L
+unfolding exactLine
+line-is c x e zero = rw (known (x .L)) (simp diff (omega arith))
+line-is c x e (suc h) =
+    rw (line-is c x e h, pow-succ' 65536 h) (line-law (65536 ^ h) (x .L) (exactTrendAt (c .phi) (x .T) (suc h)) (no-trend-at (c .phi) (x .T) h e))
+
+spread : (Q : ℕ) (l v : ℤ) → pos Q *ℤ l +ℤ pos Q *ℤ v ≡ pos Q *ℤ (l +ℤ v)
+spread Q l v = rw (known l, known v) (simp diff (omega arith))
+
 module _ (s : State) (x : Exact) (h : ℕ) (w : Good (parametersOf s) s x) where
   at : ℕ
   at = (s .index + h - 1) % s .period
@@ -72,34 +133,39 @@ module _ (s : State) (x : Exact) (h : ℕ) (w : Good (parametersOf s) s x) where
   f = forecastOf s h
 
   F : ℤ
-  F = exactForecast (parametersOf s) x h
+  F = x .L +ℤ cond (hasSeason (s .model)) (x .S at) (pos 0)
 
   rounded : f ≡ s .level +ℤ valueAt s at
   unfolding at f forecastOf seasonAt
   rounded = ap (λ (z : ℤ). z +ℤ seasonAt s h) (flat-line s (no-trend s (w .passes) (w .flat) .phi) h)
 
-  exact : F ≡ x .L +ℤ cond (hasSeason (s .model)) (x .S at) (pos 0)
+  exact : exactForecast (parametersOf s) x h ≡ pos (65536 ^ h) *ℤ F
   unfolding at F exactForecast
-  exact = ap (λ (q : ℕ). x .L +ℤ cond (hasSeason (s .model)) (x .S ((q + h - 1) % s .period)) (pos 0)) (w .index)
+  exact =
+      rw (line-is (parametersOf s) x (no-trend s (w .passes) (w .flat) .phi) h, w .index)
+      (spread (65536 ^ h) (x .L) (cond (hasSeason (s .model)) (x .S ((s .index + h - 1) % s .period)) (pos 0)))
 
   error : Same (err (power x) (parts f) (parts F)) (addD (levelErr s x) (err (power x) (parts (valueAt s at)) (parts (cond (hasSeason (s .model)) (x .S at) (pos 0)))))
-  error = both (power x) f (s .level) (valueAt s at) F (x .L) (cond (hasSeason (s .model)) (x .S at) (pos 0)) rounded exact
+  unfolding F
+  error = both (power x) f (s .level) (valueAt s at) F (x .L) (cond (hasSeason (s .model)) (x .S at) (pos 0)) rounded refl
 
-  plain : hasSeason (s .model) ≡ false → PlainBound (parametersOf s) (x .n) f F
-  unfolding PlainBound
+  plain : hasSeason (s .model) ≡ false → PlainBound (parametersOf s) (2 * x .n) f F
   plain ns =
-      within (2 * s .alpha) (65536 * power x) (x .n) f F (levelErr s x)
-      (unseasonal (hasSeason (s .model)) (power x) (getD (s .seasonal) at (pos 0)) (x .S at) (err (power x) (parts f) (parts F)) (levelErr s x) ns error)
-      (w .plain ns .1)
-      (w .plain ns .0)
+      within 65536 (2 * s .alpha) (2 * x .n) f F δ
+      (unseasonal (hasSeason (s .model)) (power x) (getD (s .seasonal) at (pos 0)) (x .S at) (err (power x) (parts f) (parts F)) δ ns error)
+      (narrower (s .alpha) (power x) (δ .0) (δ .1) (w .plain ns .1))
+      (narrower (s .alpha) (power x) (δ .1) (δ .0) (w .plain ns .0))
+    where
+      δ : D
+      δ = levelErr s x
 
-  of-season : hasSeason (s .model) ≡ true → 0 < s .gamma → s .alpha < 65536 → x .missed ≡ 0 → SeasonalBound (parametersOf s) (x .n) f F
-  unfolding SeasonalBound at
+  of-season : hasSeason (s .model) ≡ true → 0 < s .gamma → s .alpha < 65536 → x .missed ≡ 0 → SeasonalBound (parametersOf s) (2 * x .n) f F
+  unfolding at
   of-season ss g a z =
-      within c ((s .period * c + 2 * j) * power x) (x .n) f F (δ .0 + τ .1, δ .1 + τ .0)
-      (seasonal (hasSeason (s .model)) (power x) (valueAt s at) (x .S at) (err (power x) (parts f) (parts F)) δ ss error)
-      (more (c * (δ .0 + τ .1)) (c * (δ .1 + τ .0)) (s .period) c j (power x) (spread-up 65536 (65536 - s .alpha) (s .gamma) (s .period) (power x) (s .index) (omega arith) (le-of-lt lt) (levelErr s x) (placeErr s x) (w .cycle ss a g z) at (mod-lt (s .index + h - 1) some)))
-      (more (c * (δ .1 + τ .0)) (c * (δ .0 + τ .1)) (s .period) c j (power x) (spread-down 65536 (65536 - s .alpha) (s .gamma) (s .period) (power x) (s .index) (omega arith) (le-of-lt lt) (levelErr s x) (placeErr s x) (w .cycle ss a g z) at (mod-lt (s .index + h - 1) some)))
+      within (s .period * c + 2 * j) c (2 * x .n) f F (up′, dn′)
+      (seasonal (hasSeason (s .model)) (power x) (valueAt s at) (x .S at) (err (power x) (parts f) (parts F)) (levelErr s x) ss error)
+      (more (c * up′) (c * dn′) (s .period) c j (power x) (narrow (s .gamma) (65536 - s .alpha) (s .period) (power x) up′ dn′ (spread-up 4294967296 (65536 * (65536 - s .alpha)) (65536 * s .gamma) (s .period) (power x) (s .index) (omega arith) (le-of-lt lt) (levelErr s x) (placeErr s x) (w .cycle ss a g z) at (mod-lt (s .index + h - 1) some))))
+      (more (c * dn′) (c * up′) (s .period) c j (power x) (narrow (s .gamma) (65536 - s .alpha) (s .period) (power x) dn′ up′ (spread-down 4294967296 (65536 * (65536 - s .alpha)) (65536 * s .gamma) (s .period) (power x) (s .index) (omega arith) (le-of-lt lt) (levelErr s x) (placeErr s x) (w .cycle ss a g z) at (mod-lt (s .index + h - 1) some))))
     where
       c : ℕ
       c = s .gamma * (65536 - s .alpha) ^ s .period
@@ -107,11 +173,11 @@ module _ (s : State) (x : Exact) (h : ℕ) (w : Good (parametersOf s) s x) where
       j : ℕ
       j = s .period * 65536 ^ suc (s .period)
 
-      δ : D
-      δ = levelErr s x
+      up′ : ℕ
+      up′ = levelErr s x .0 + placeErr s x at .1
 
-      τ : D
-      τ = placeErr s x at
+      dn′ : ℕ
+      dn′ = levelErr s x .1 + placeErr s x at .0
 
       lt : s .index < s .period
       lt = with-season s (w .passes) ss .index
@@ -119,16 +185,18 @@ module _ (s : State) (x : Exact) (h : ℕ) (w : Good (parametersOf s) s x) where
       some : 0 < s .period
       some = omega (arith, lt)
 
-  any-gain : hasSeason (s .model) ≡ true → x .missed ≡ 0 → SeasonalBound (parametersOf s) (x .n) f F
+  any-gain : hasSeason (s .model) ≡ true → x .missed ≡ 0 → SeasonalBound (parametersOf s) (2 * x .n) f F
   any-gain ss z = by-gains (decLe 1 (s .gamma)) (decLe (suc (s .alpha)) 65536)
     where
-      by-gains : Dec (1 ≤ s .gamma) → Dec (suc (s .alpha) ≤ 65536) → SeasonalBound (parametersOf s) (x .n) f F
+      by-gains : Dec (1 ≤ s .gamma) → Dec (suc (s .alpha) ≤ 65536) → SeasonalBound (parametersOf s) (2 * x .n) f F
       by-gains (yes g) (yes a) = of-season ss (omega arith) (omega arith) z
-      by-gains (no g) d = let e : s .gamma ≡ 0 = omega arith in unlimited (parametersOf s) (x .n) f F (rw e (omega arith))
+      by-gains (no g) d = let e : s .gamma ≡ 0 = omega arith in unlimited (parametersOf s) (2 * x .n) f F (rw e (omega arith))
       by-gains (yes g) (no a) =
           let e : 65536 - s .alpha ≡ 0 = omega arith in
-          unlimited (parametersOf s) (x .n) f F (rw (e, zero-power (s .period) (omega (arith, with-season s (w .passes) ss .index))) (omega arith))
+          unlimited (parametersOf s) (2 * x .n) f F (rw (e, zero-power (s .period) (omega (arith, with-season s (w .passes) ss .index))) (omega arith))
 
   pub forecast-close : WithinLimit (parametersOf s) (forecastOf s h) (expectedForecast (parametersOf s) x h)
-  unfolding WithinLimit f F
-  forecast-close z = (plain, (λ ss. any-gain ss z))
+  unfolding WithinLimit f
+  forecast-close z =
+      rw exact
+      ((λ e. stretch 65536 (2 * s .alpha) (2 * x .n) h (forecastOf s h) F (plain e)), (λ e. stretch _ _ (2 * x .n) h (forecastOf s h) F (any-gain e z)))

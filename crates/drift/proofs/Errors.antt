@@ -5,10 +5,9 @@ use native.Mathlib.Nat.{mul-le-mul-left}
 use native.Mathlib.Omega.{arith}
 use lib.IntN.{ℤ, pos, _+ℤ_, _-ℤ_, _*ℤ_}
 use Rattle.integers.proofs.Difference.{up, dn, sum, minus, scaled}
-use Rattle.state.specs.Fixed.{R}
+use Rattle.state.specs.Fixed.{share}
 use Rattle.drift.proofs.Averages.{D, negD, Above, mix, zeroD, Same, scaleD}
-use Rattle.drift.proofs.Rounding.{R-below, R-above}
-use Rattle.drift.specs.Exact.{adjusted}
+use Rattle.drift.proofs.Rounding.{share-below, share-above}
 
 abbrev pub parts : ℤ → D
 parts z = (up z, dn z)
@@ -20,24 +19,24 @@ addD u v = (u .0 + v .0, u .1 + v .1)
 abbrev pub err : ℕ → D → D → D
 err Kn z Z = (Kn * z .0 + Z .1, Kn * z .1 + Z .0)
 
--- ---- in naturals. With δ, σ and ε the errors of the corrected number, of the other one and of the residual, and ρ that of rounding
-average : (Kn A B : ℕ) (u δ σ ε ρ : D) → A + B ≡ 65536 → Same u (addD (scaleD 65536 δ) (addD (scaleD A ε) ρ)) → Same (addD ε (addD δ σ)) zeroD → ρ .1 ≤ ρ .0 + 32768 * Kn → Above (65536 * Kn) u (mix B δ A (negD σ))
+-- ---- in naturals, over 65536 squared: a reading's two powers. With δ, σ and ε the errors of the corrected number, of the other one and of the residual, and ρ that of rounding
+average : (Kn A B : ℕ) (u δ σ ε ρ : D) → A + B ≡ 4294967296 → Same u (addD (scaleD 4294967296 δ) (addD (scaleD A ε) ρ)) → Same (addD ε (addD δ σ)) zeroD → ρ .1 ≤ ρ .0 + 2147483648 * Kn → Above (4294967296 * Kn) u (mix B δ A (negD σ))
 average Kn A B u δ σ ε ρ e h s r =
     omega (arith, ap (λ (z : ℕ). A * z) s, ap (λ (z : ℕ). z * δ .0) e, ap (λ (z : ℕ). z * δ .1) e)
 
 -- Kn times what rounding A × e to g adds
 abbrev rest : ℕ → ℕ → D → D → D
-rest Kn A e g = (65536 * (Kn * g .0) + A * (Kn * e .1), 65536 * (Kn * g .1) + A * (Kn * e .0))
+rest Kn A e g = (4294967296 * (Kn * g .0) + A * (Kn * e .1), 4294967296 * (Kn * g .1) + A * (Kn * e .0))
 
-split : (Kn A : ℕ) (e E l L l′ L′ g : D) → Same l′ (addD l g) → Same L′ (addD (scaleD 65536 L) (scaleD A E)) → Same (err (65536 * Kn) l′ L′) (addD (scaleD 65536 (err Kn l L)) (addD (scaleD A (err Kn e E)) (rest Kn A e g)))
-split Kn A e E l L l′ L′ g h k = omega (arith, ap (λ (z : ℕ). 65536 * Kn * z) h)
+split : (Kn A : ℕ) (e E l L l′ L′ g : D) → Same l′ (addD l g) → Same L′ (addD (scaleD 4294967296 L) (scaleD A E)) → Same (err (4294967296 * Kn) l′ L′) (addD (scaleD 4294967296 (err Kn l L)) (addD (scaleD A (err Kn e E)) (rest Kn A e g)))
+split Kn A e E l L l′ L′ g h k = omega (arith, ap (λ (z : ℕ). 4294967296 * Kn * z) h)
 
-rest-small : (Kn A : ℕ) (e g : D) → A * e .0 + 65536 * g .1 ≤ A * e .1 + 65536 * g .0 + 32768 → rest Kn A e g .1 ≤ rest Kn A e g .0 + 32768 * Kn
+rest-small : (Kn A : ℕ) (e g : D) → A * e .0 + 4294967296 * g .1 ≤ A * e .1 + 4294967296 * g .0 + 2147483648 → rest Kn A e g .1 ≤ rest Kn A e g .0 + 2147483648 * Kn
 rest-small Kn A e g h = omega (arith, mul-le-mul-left Kn h)
 
-corrected : (Kn A B : ℕ) (e E l L s S l′ L′ g : D) → A + B ≡ 65536 → Same l′ (addD l g) → Same L′ (addD (scaleD 65536 L) (scaleD A E)) → Same (addD (err Kn e E) (addD (err Kn l L) (err Kn s S))) zeroD → A * e .0 + 65536 * g .1 ≤ A * e .1 + 65536 * g .0 + 32768 → Above (65536 * Kn) (err (65536 * Kn) l′ L′) (mix B (err Kn l L) A (negD (err Kn s S)))
+corrected : (Kn A B : ℕ) (e E l L s S l′ L′ g : D) → A + B ≡ 4294967296 → Same l′ (addD l g) → Same L′ (addD (scaleD 4294967296 L) (scaleD A E)) → Same (addD (err Kn e E) (addD (err Kn l L) (err Kn s S))) zeroD → A * e .0 + 4294967296 * g .1 ≤ A * e .1 + 4294967296 * g .0 + 2147483648 → Above (4294967296 * Kn) (err (4294967296 * Kn) l′ L′) (mix B (err Kn l L) A (negD (err Kn s S)))
 corrected Kn A B e E l L s S l′ L′ g hAB hl hL hE hr =
-    average Kn A B (err (65536 * Kn) l′ L′) (err Kn l L) (err Kn s S) (err Kn e E) (rest Kn A e g) hAB
+    average Kn A B (err (4294967296 * Kn) l′ L′) (err Kn l L) (err Kn s S) (err Kn e E) (rest Kn A e g) hAB
     (split Kn A e E l L l′ L′ g hl hL)
     hE
     (rest-small Kn A e g hr)
@@ -63,16 +62,15 @@ residual-error Kn e l d s L S y d0 es = join (parts e) (parts E) (parts l) (part
 abbrev pub Both : ℕ → D → D → Type 0
 Both e u v = Above e u v × Above e (negD u) (negD v)
 
--- the new error is the average of the corrected number's and the other's, and half a grain
-module _ (Kn A B : ℕ) (hAB : A + B ≡ 65536) (e E l L s S l′ L′ : ℤ) (hl : Same (parts l′) (addD (parts l) (parts (R (pos A *ℤ e))))) (hL : L′ ≡ adjusted A L E) (hE : Same (addD (err Kn (parts e) (parts E)) (addD (err Kn (parts l) (parts L)) (err Kn (parts s) (parts S)))) zeroD) where
-  hL′ : Same (parts L′) (addD (scaleD 65536 (parts L)) (scaleD A (parts E)))
-  unfolding adjusted
-  hL′ = omega (arith, ap up hL, ap dn hL, sum (pos 65536 *ℤ L) (pos A *ℤ E), scaled 65536 L, scaled A E)
+-- the new error is the average of the corrected number's and the other's, and half a unit
+module _ (Kn A B : ℕ) (hAB : 65536 * A + 65536 * B ≡ 4294967296) (e E l L s S l′ L′ : ℤ) (hl : Same (parts l′) (addD (parts l) (parts (share A e)))) (hL : L′ ≡ pos 4294967296 *ℤ L +ℤ pos (65536 * A) *ℤ E) (hE : Same (addD (err Kn (parts e) (parts E)) (addD (err Kn (parts l) (parts L)) (err Kn (parts s) (parts S)))) zeroD) where
+  hL′ : Same (parts L′) (addD (scaleD 4294967296 (parts L)) (scaleD (65536 * A) (parts E)))
+  hL′ = omega (arith, ap up hL, ap dn hL, sum (pos 4294967296 *ℤ L) (pos (65536 * A) *ℤ E), scaled 4294967296 L, scaled (65536 * A) E)
 
-  pub corrected-both : Both (65536 * Kn) (err (65536 * Kn) (parts l′) (parts L′)) (mix B (err Kn (parts l) (parts L)) A (negD (err Kn (parts s) (parts S))))
+  pub corrected-both : Both (4294967296 * Kn) (err (4294967296 * Kn) (parts l′) (parts L′)) (mix (65536 * B) (err Kn (parts l) (parts L)) (65536 * A) (negD (err Kn (parts s) (parts S))))
   corrected-both = (
-    corrected Kn A B (parts e) (parts E) (parts l) (parts L) (parts s) (parts S) (parts l′) (parts L′) (parts (R (pos A *ℤ e))) hAB hl hL′ hE
-        (omega (arith, R-above (pos A *ℤ e), scaled A e)),
-    corrected Kn A B (negD (parts e)) (negD (parts E)) (negD (parts l)) (negD (parts L)) (negD (parts s)) (negD (parts S)) (negD (parts l′)) (negD (parts L′)) (negD (parts (R (pos A *ℤ e)))) hAB (sym hl) (sym hL′) (sym hE)
-        (omega (arith, R-below (pos A *ℤ e), scaled A e)),
+    corrected Kn (65536 * A) (65536 * B) (parts e) (parts E) (parts l) (parts L) (parts s) (parts S) (parts l′) (parts L′) (parts (share A e)) hAB hl hL′ hE
+        (omega (arith, share-above A e, scaled A e)),
+    corrected Kn (65536 * A) (65536 * B) (negD (parts e)) (negD (parts E)) (negD (parts l)) (negD (parts L)) (negD (parts s)) (negD (parts S)) (negD (parts l′)) (negD (parts L′)) (negD (parts (share A e))) hAB (sym hl) (sym hL′) (sym hE)
+        (omega (arith, share-below A e, scaled A e)),
   )

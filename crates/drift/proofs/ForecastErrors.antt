@@ -1,25 +1,27 @@
 -- The forecast from the same state against the exact one.
 use mathlib.Core.Path.{_≡_, refl, sym, _∙_, ap}
-use mathlib.Core.Bool.{true, not}
-use Prim.Native.Nat.{ℕ, zero, suc, _+_, _*_, _/_, _%_, _^_, _≤_, _<_}
+use mathlib.Core.Bool.{Bool, true, false, cond, not}
+use Prim.Native.Nat.{ℕ, zero, suc, _+_, _*_, _-_, _/_, _%_, _^_, _≤_, _<_}
 use native.Mathlib.Nat.{le-refl, pow-succ'}
-use native.Mathlib.Numerals.{add-one}
 use native.Mathlib.Omega.{arith}
 use lib.Dec.{eqb}
 use lib.IntN.{ℤ, pos, negsuc, natAbs, _+ℤ_, _-ℤ_, _*ℤ_, zero-*ℤ}
+use lib.ListN.{getD}
 use borrow.Author.Tests.{eqb-true, eqb-false, not-true}
 use Rattle.integers.specs.Bounds.{Within}
 use Rattle.integers.proofs.Difference.{diff, ints, known, sum, scaled}
 use Rattle.integers.proofs.Bounds.{within-zero, within-add, within-mul, within-parts}
-use Rattle.state.specs.Fixed.{R}
-use Rattle.state.specs.Models.{trendOf, validModel, dampingOk}
+use Rattle.state.specs.Fixed.{share}
+use Rattle.state.specs.Models.{trendOf, hasSeason, validModel, dampingOk}
 use Rattle.state.specs.States.{check}
 use Rattle.state.specs.declared.State.{State}
-use Rattle.state.proofs.Tests.{both, model-law}
-use Rattle.state.proofs.Rounding.{R-error, R-whole, R-none}
+use Rattle.state.proofs.Tests.{both, model-law, valid-small}
+use Rattle.state.proofs.Rounding.{share-error, share-one, share-none}
 use Rattle.state.proofs.Passing.{passed, bounded}
 use Rattle.ets.specs.Forecasts.{trendAt, trendLine, seasonAt, forecastOf}
-use Rattle.drift.specs.ExactForecast.{exactTrendAt, exactLine, exactForecastOf, ForecastErrors}
+use Rattle.drift.specs.Exact.{parametersOf, opened, exactTrendAt, exactLine, exactForecast}
+use Rattle.drift.specs.Limits.{AtMost}
+use Rattle.drift.specs.ForecastErrors.{exactFrom, DampedBound, ForecastErrors}
 
 -- ---- with damping: 2 |dj − exact| ≤ j, and 4 |sum − exact| ≤ h (h + 1)
 trend-zero : (d : ℤ) → pos 2 *ℤ (pos 1 *ℤ d -ℤ d) ≡ pos 0
@@ -35,8 +37,8 @@ trend-error : (F : ℕ) (b : ℤ) → F ≤ 65536 → (j : ℕ) → Within (j * 
 unfolding trendAt exactTrendAt
 trend-error F b h zero = rw (trend-zero b) (within-zero (0 * 1))
 trend-error F b h (suc j) =
-    rw (pow-succ' 65536 j, trend-next F (65536 ^ j) (R (pos F *ℤ trendAt F b j)) (trendAt F b j) (exactTrendAt F b j))
-    (rw (trend-limit j (65536 ^ j)) at (within-add (within-mul (le-refl (65536 ^ j)) (R-error (pos F *ℤ trendAt F b j))) (within-mul h (trend-error F b h j))))
+    rw (pow-succ' 65536 j, trend-next F (65536 ^ j) (share F (trendAt F b j)) (trendAt F b j) (exactTrendAt F b j))
+    (rw (trend-limit j (65536 ^ j)) at (within-add (within-mul (le-refl (65536 ^ j)) (share-error F (trendAt F b j))) (within-mul h (trend-error F b h j))))
 
 line-zero : (l : ℤ) → pos 4 *ℤ (pos 1 *ℤ l -ℤ l) ≡ pos 0
 line-zero l = rw (known l) (simp diff (omega arith))
@@ -47,11 +49,11 @@ line-next p s t d n = rw (known s, known t, known d, known n) (simp diff (omega 
 line-limit : (k p : ℕ) → 65536 * (k * suc k * p) + 2 * (suc k * (65536 * p)) ≡ suc k * suc (suc k) * (65536 * p)
 line-limit k p = omega arith
 
-line-error : (s : State) → s .phi ≤ 65536 → (h : ℕ) → Within (h * suc h * 65536 ^ h) (pos 4 *ℤ (pos (65536 ^ h) *ℤ trendLine (s .level) (s .phi) (s .trend) h -ℤ exactLine s h))
+line-error : (s : State) → s .phi ≤ 65536 → (h : ℕ) → Within (h * suc h * 65536 ^ h) (pos 4 *ℤ (pos (65536 ^ h) *ℤ trendLine (s .level) (s .phi) (s .trend) h -ℤ exactLine (parametersOf s) (opened s) h))
 unfolding trendLine exactLine
 line-error s f zero = rw (line-zero (s .level)) (within-zero (0 * 1 * 1))
 line-error s f (suc h) =
-    rw (pow-succ' 65536 h, line-next (65536 ^ h) (trendLine (s .level) (s .phi) (s .trend) h) (exactLine s h) (trendAt (s .phi) (s .trend) (suc h)) (exactTrendAt (s .phi) (s .trend) (suc h)))
+    rw (pow-succ' 65536 h, line-next (65536 ^ h) (trendLine (s .level) (s .phi) (s .trend) h) (exactLine (parametersOf s) (opened s) h) (trendAt (s .phi) (s .trend) (suc h)) (exactTrendAt (s .phi) (s .trend) (suc h)))
     (rw (line-limit h (65536 ^ h)) at (within-add (within-mul (le-refl 65536) (line-error s f h)) (within-mul (le-refl 2) (rw (pow-succ' 65536 h) at (trend-error (s .phi) (s .trend) f (suc h))))))
 
 -- ---- without trend, and with a straight one
@@ -62,13 +64,13 @@ pub flat-line : (s : State) → s .phi ≡ 0 → (h : ℕ) → trendLine (s .lev
 unfolding trendLine trendAt
 flat-line s e zero = refl
 flat-line s e (suc h) =
-    none-added (trendLine (s .level) (s .phi) (s .trend) h) (trendAt (s .phi) (s .trend) (suc h)) (ap (λ (F : ℕ). trendAt F (s .trend) (suc h)) e ∙ R-none (trendAt 0 (s .trend) h))
+    none-added (trendLine (s .level) (s .phi) (s .trend) h) (trendAt (s .phi) (s .trend) (suc h)) (ap (λ (F : ℕ). trendAt F (s .trend) (suc h)) e ∙ share-none (trendAt 0 (s .trend) h))
     ∙ flat-line s e h
 
 straight-trend : (b : ℤ) (j : ℕ) → trendAt 65536 b j ≡ b
 unfolding trendAt
 straight-trend b zero = refl
-straight-trend b (suc j) = R-whole (trendAt 65536 b j) ∙ straight-trend b j
+straight-trend b (suc j) = share-one (trendAt 65536 b j) ∙ straight-trend b j
 
 one-more : (h : ℕ) (l b : ℤ) → l +ℤ pos h *ℤ b +ℤ b ≡ l +ℤ pos (suc h) *ℤ b
 one-more h l b = rw (known l, known b) (simp diff (omega arith))
@@ -82,7 +84,7 @@ straight-line s e (suc h) =
 
 -- ---- a factor that rounds nothing
 abbrev Whole : ℕ → Type 0
-Whole F = (z : ℤ) → pos 65536 *ℤ R (pos F *ℤ z) ≡ pos F *ℤ z
+Whole F = (z : ℤ) → pos 65536 *ℤ share F z ≡ pos F *ℤ z
 
 once : (x : ℤ) → pos 1 *ℤ x ≡ x
 once x = rw (known x) (simp diff (omega arith))
@@ -97,30 +99,38 @@ whole-trend : (F : ℕ) (b : ℤ) → Whole F → (j : ℕ) → pos (65536 ^ j) 
 unfolding trendAt exactTrendAt
 whole-trend F b w zero = once b
 whole-trend F b w (suc j) =
-    rw (pow-succ' 65536 j, times-assoc (65536 ^ j) (R (pos F *ℤ trendAt F b j)), w (trendAt F b j), times-swap (65536 ^ j) F (trendAt F b j), whole-trend F b w j)
+    rw (pow-succ' 65536 j, times-assoc (65536 ^ j) (share F (trendAt F b j)), w (trendAt F b j), times-swap (65536 ^ j) F (trendAt F b j), whole-trend F b w j)
 
 line-whole : (p : ℕ) (s d : ℤ) → pos (65536 * p) *ℤ (s +ℤ d) ≡ pos 65536 *ℤ (pos p *ℤ s) +ℤ pos (65536 * p) *ℤ d
 line-whole p s d = rw (known s, known d) (simp diff (omega arith))
 
-whole-line : (s : State) → Whole (s .phi) → (h : ℕ) → pos (65536 ^ h) *ℤ trendLine (s .level) (s .phi) (s .trend) h ≡ exactLine s h
+whole-line : (s : State) → Whole (s .phi) → (h : ℕ) → pos (65536 ^ h) *ℤ trendLine (s .level) (s .phi) (s .trend) h ≡ exactLine (parametersOf s) (opened s) h
 unfolding trendLine exactLine
 whole-line s w zero = once (s .level)
 whole-line s w (suc h) =
     rw (pow-succ' 65536 h, line-whole (65536 ^ h) (trendLine (s .level) (s .phi) (s .trend) h) (trendAt (s .phi) (s .trend) (suc h)), whole-line s w h)
-    (ap (λ (z : ℤ). pos 65536 *ℤ exactLine s h +ℤ z) (ap (λ (p : ℕ). pos p *ℤ trendAt (s .phi) (s .trend) (suc h)) (sym (pow-succ' 65536 h)) ∙ whole-trend (s .phi) (s .trend) w (suc h)))
+    (ap (λ (z : ℤ). pos 65536 *ℤ exactLine (parametersOf s) (opened s) h +ℤ z) (ap (λ (p : ℕ). pos p *ℤ trendAt (s .phi) (s .trend) (suc h)) (sym (pow-succ' 65536 h)) ∙ whole-trend (s .phi) (s .trend) w (suc h)))
 
 -- ---- which factor a model without damping has
 no-third : (b : ℕ) → validModel b ≡ true → trendOf b ≡ 3 → ⊥
 no-third b h e =
-    let t = both (eqb (b / 8) 0) (not (eqb (b % 4) 3)) (model-law b ∙ h) in
+    let t = both (eqb (b / 8) 0) (not (eqb (b % 4) 3)) (model-law b (valid-small b h) ∙ h) in
     eqb-false (b % 4) 3 (not-true (eqb (b % 4) 3) (t .1)) e
 
 undamped-phi : (t F : ℕ) → t < 4 → (t ≡ 3 → ⊥) → (t ≡ 2 → ⊥) → dampingOk t F ≡ true → Whole F
-undamped-phi zero F l h k d = λ z. rw (eqb-true F 0 d, R-none z, zero-*ℤ z)
-undamped-phi (suc zero) F l h k d = λ z. rw (eqb-true F 65536 d) (ap (λ (x : ℤ). pos 65536 *ℤ x) (R-whole z))
+undamped-phi zero F l h k d = λ z. rw (eqb-true F 0 d, share-none z, zero-*ℤ z)
+undamped-phi (suc zero) F l h k d = λ z. rw (eqb-true F 65536 d) (ap (λ (x : ℤ). pos 65536 *ℤ x) (share-one z))
 undamped-phi (suc (suc t)) F l h k d = absurd (omega arith)
 
 -- ---- the season's value is added on both sides
+twice : (b : Bool) (v : ℤ) → cond b (cond b v (pos 0)) (pos 0) ≡ cond b v (pos 0)
+twice true v = refl
+twice false v = refl
+
+from-same : (s : State) (h : ℕ) → exactFrom s h ≡ exactLine (parametersOf s) (opened s) h +ℤ pos (65536 ^ h) *ℤ seasonAt s h
+unfolding exactForecast seasonAt
+from-same s h = rw (twice (hasSeason (s .model)) (getD (s .seasonal) ((s .index + h - 1) % s .period) (pos 0)))
+
 with-season : (p : ℕ) (t x v : ℤ) → pos p *ℤ (t +ℤ v) -ℤ (x +ℤ pos p *ℤ v) ≡ pos p *ℤ t -ℤ x
 with-season p t x v = rw (known t, known x, known v) (simp diff (omega arith))
 
@@ -132,17 +142,18 @@ absolute n (pos a) w = omega (arith, within-parts w, scaled 4 (pos a))
 absolute n (negsuc a) w = omega (arith, within-parts w, scaled 4 (negsuc a))
 
 module _ (s : State) (ok : check s ≡ 0) (h : ℕ) where
-  damped : 4 * natAbs (pos (65536 ^ h) *ℤ forecastOf s h -ℤ exactForecastOf s h) ≤ h * (h + 1) * 65536 ^ h
-  unfolding forecastOf exactForecastOf
+  damped : DampedBound h (forecastOf s h) (exactFrom s h)
+  unfolding AtMost forecastOf
   damped =
-      rw (with-season (65536 ^ h) (trendLine (s .level) (s .phi) (s .trend) h) (exactLine s h) (seasonAt s h), add-one h)
-      (absolute (h * suc h * 65536 ^ h) (pos (65536 ^ h) *ℤ trendLine (s .level) (s .phi) (s .trend) h -ℤ exactLine s h) (line-error s (bounded s ok .phi) h))
+      rw (from-same s h, with-season (65536 ^ h) (trendLine (s .level) (s .phi) (s .trend) h) (exactLine (parametersOf s) (opened s) h) (seasonAt s h))
+      (omega (arith, absolute (h * suc h * 65536 ^ h) (pos (65536 ^ h) *ℤ trendLine (s .level) (s .phi) (s .trend) h -ℤ exactLine (parametersOf s) (opened s) h) (line-error s (bounded s ok .phi) h)))
 
-  undamped : (trendOf (s .model) ≡ 2 → ⊥) → pos (65536 ^ h) *ℤ forecastOf s h ≡ exactForecastOf s h
-  unfolding forecastOf exactForecastOf
+  undamped : (trendOf (s .model) ≡ 2 → ⊥) → pos (65536 ^ h) *ℤ forecastOf s h ≡ exactFrom s h
+  unfolding forecastOf
   undamped k =
       spread (65536 ^ h) (trendLine (s .level) (s .phi) (s .trend) h) (seasonAt s h)
       ∙ ap (λ (z : ℤ). z +ℤ pos (65536 ^ h) *ℤ seasonAt s h) (whole-line s (undamped-phi (trendOf (s .model)) (s .phi) (omega arith) (no-third (s .model) (passed s ok .model)) k (passed s ok .phi)) h)
+      ∙ sym (from-same s h)
 
   level : trendOf (s .model) ≡ 0 → forecastOf s h ≡ s .level +ℤ seasonAt s h
   unfolding forecastOf

@@ -1,5 +1,6 @@
--- Demand 3 is `demand3` of Drift; the component form is `component-form` of Components; the forecast's exactness is `forecast-errors` of ForecastErrors.
--- How it goes: the error of the level and, with the sign turned, those of the season values are averaged by a reading, and half a grain comes on top.
+-- Demand 3 is `demand3` of Drift; the component form `component-form` of Components and `step-errors` of StepErrors; the forecast's exactness `forecast-errors` of
+-- ForecastErrors. Each is the contract of a function in src/.
+-- How demand 3 goes: the error of the level and, with the sign turned, those of the season values are averaged by a reading, and half a unit comes on top.
 
 -- in naturals, of any such system: one step, the invariant over the cycles of the season, what it says of a forecast
 pub mod Averages
@@ -12,11 +13,10 @@ pub mod Readings
 pub mod Invariant
 pub mod ForecastErrors
 pub mod Distances
--- the calls on a state handed in, those on a lent snapshot, a list of calls
+-- the calls, and a list of them
 pub mod Runs
-pub mod Lent
 pub mod Drift
--- the component form; that the claim is not empty, and what it does not say
+-- the component form and one step; the pins
 pub mod Components
-pub mod Shown
-pub mod Needed
+pub mod StepErrors
+pub mod Computed

@@ -3,26 +3,26 @@ use mathlib.Core.Path.{_≡_, refl, sym, _∙_, ap}
 use mathlib.Core.Bool.{Bool, true, false, cond}
 use mathlib.Core.Logic.{_≢_}
 use mathlib.Core.List.{List}
-use Prim.Native.Nat.{ℕ, _+_, _*_, _^_, _<_}
+use Prim.Native.Nat.{ℕ, suc, _+_, _*_, _^_, _<_}
 use native.Mathlib.Nat.{pow-succ'}
 use native.Mathlib.Omega.{arith}
 use lib.IntN.{ℤ, pos, _+ℤ_, _-ℤ_, _*ℤ_, zero-*ℤ}
 use lib.ListN.{length, getD, set}
 use lib.Seq.{getD-set-same, getD-set-other}
 use borrow.Author.Tests.{eq-eqb, ne-eqb}
-use Rattle.integers.proofs.Difference.{up, dn, sum, scaled}
-use Rattle.state.specs.Fixed.{R}
-use Rattle.state.specs.Models.{hasSeason}
+use Rattle.integers.proofs.Difference.{diff, known, up, dn, sum, scaled}
+use Rattle.state.specs.Fixed.{share}
+use Rattle.state.specs.Models.{hasTrend, hasSeason}
 use Rattle.state.specs.declared.State.{State}
-use Rattle.state.proofs.Rounding.{R-none}
-use Rattle.ets.specs.Steps.{dampedTrend, seasonDue, residualOf, newLevel, newSeason, newSeasonal, corrected, afterReading}
+use Rattle.state.proofs.Rounding.{share-none}
+use Rattle.ets.specs.Steps.{termsOf, dampedTrend, seasonDue, residualOf, newLevel, newSeason, newSeasonal, corrected, afterReading, residual}
 use Rattle.drift.proofs.Averages.{D, negD, mix, zeroD, Same, scaleD, StepBelow}
 use Rattle.drift.proofs.Cycles.{negs}
 use Rattle.drift.proofs.Errors.{parts, addD, err, Both, residual-error, corrected-both}
-use Rattle.drift.specs.Exact.{Parameters, Exact, parametersOf, exactReading, exactResidual, exactSeason, adjusted}
+use Rattle.drift.specs.Exact.{Parameters, Exact, parametersOf, exactDamped, exactReading, exactResidual, exactSeason, adjusted}
 
 abbrev pub power : Exact → ℕ
-power x = 65536 ^ x .n
+power x = 65536 ^ (2 * x .n)
 
 -- the season value at a place, 0 without season
 abbrev pub valueAt : State → ℕ → ℤ
@@ -48,91 +48,125 @@ moved : (b : Bool) (cell r : ℤ) → (b ≡ false → r ≡ pos 0) → Same (pa
 moved true cell r h = omega (arith, sum cell r)
 moved false cell r h = omega (arith, ap up (h refl), ap dn (h refl))
 
-exact-here : (b : Bool) (g : ℕ) (S E u : ℤ) → (b ≡ false → (g ≡ 0) × (S ≡ pos 0)) → cond b (cond true (adjusted g S E) u) (pos 0) ≡ adjusted g S E
+exact-here : (b : Bool) (g : ℕ) (S E : ℤ) → (b ≡ false → (g ≡ 0) × (S ≡ pos 0)) → cond b (adjusted g S E) (pos 0) ≡ adjusted g S E
 unfolding adjusted
-exact-here true g S E u h = refl
-exact-here false g S E u h = rw (h refl .0, h refl .1, zero-*ℤ E)
+exact-here true g S E h = refl
+exact-here false g S E h = rw (h refl .0, h refl .1, zero-*ℤ E)
 
-exact-there : (b : Bool) (S u : ℤ) → (b ≡ false → S ≡ pos 0) → cond b (cond false u (pos 65536 *ℤ S)) (pos 0) ≡ pos 65536 *ℤ S
-exact-there true S u h = refl
-exact-there false S u h = rw (h refl)
+-- ---- without trend: the residual over the old power, times 65536; and a number moved by a share of it
+residual-law : (P : ℕ) (l s y : ℤ) → pos (65536 * P) *ℤ (pos 65536 *ℤ y) -ℤ (pos 65536 *ℤ l +ℤ pos 0 +ℤ pos 65536 *ℤ s) ≡ pos 65536 *ℤ (pos P *ℤ (pos 65536 *ℤ y) -ℤ l -ℤ s)
+residual-law P l s y = rw (known l, known s, known y) (simp diff (omega arith))
+
+adjusted-law : (g : ℕ) (z w e : ℤ) → w ≡ pos 65536 *ℤ z → adjusted g w (pos 65536 *ℤ e) ≡ pos 4294967296 *ℤ z +ℤ pos (65536 * g) *ℤ e
+unfolding adjusted
+adjusted-law g z w e h = rw (h, known z, known e) (simp diff (omega arith))
+
+kept-law : (z e : ℤ) → adjusted 0 (pos 65536 *ℤ z) e ≡ pos 4294967296 *ℤ z
+unfolding adjusted
+kept-law z e = rw (known z, known e) (simp diff (omega arith))
+
+plus-none : (z d : ℤ) → d ≡ pos 0 → z +ℤ d ≡ z
+plus-none z d h = rw (h, known z) (simp diff (omega arith))
 
 -- the exact values at the place where the state stands
-module _ (c : Parameters) (x : Exact) (y : ℤ) (p : ℕ) (same-p : x .p ≡ p) (none : c .seasonal ≡ false → (c .gamma ≡ 0) × ((k : ℕ) → x .S k ≡ pos 0)) where
-  residual-at : exactResidual x y ≡ pos (power x) *ℤ (pos 65536 *ℤ y) -ℤ x .L -ℤ x .S p
-  unfolding exactResidual
-  residual-at = ap (λ (q : ℕ). pos (power x) *ℤ (pos 65536 *ℤ y) -ℤ x .L -ℤ x .S q) same-p
+module _ (c : Parameters) (x : Exact) (y : ℤ) (p : ℕ) (still : exactDamped c x ≡ pos 0) (same-p : x .p ≡ p) (none : c .seasonal ≡ false → (c .gamma ≡ 0) × ((k : ℕ) → x .S k ≡ pos 0)) where
+  abbrev E : ℤ
+  E = pos (power x) *ℤ (pos 65536 *ℤ y) -ℤ x .L -ℤ x .S p
 
-  S-here : exactReading c x y .S p ≡ adjusted (c .gamma) (x .S p) (exactResidual x y)
+  residual-at : exactResidual c x y ≡ pos 65536 *ℤ E
+  unfolding exactResidual
+  residual-at = rw (still, same-p, pow-succ' 65536 (2 * x .n)) (residual-law (power x) (x .L) (x .S p) y)
+
+  L-new : exactReading c x y .L ≡ pos 4294967296 *ℤ x .L +ℤ pos (65536 * c .alpha) *ℤ E
+  L-new = rw residual-at (adjusted-law (c .alpha) (x .L) (pos 65536 *ℤ x .L +ℤ exactDamped c x) E (plus-none (pos 65536 *ℤ x .L) (exactDamped c x) still))
+
+  S-here : exactReading c x y .S p ≡ pos 4294967296 *ℤ x .S p +ℤ pos (65536 * c .gamma) *ℤ E
   unfolding exactSeason
   S-here =
-      ap (λ (b : Bool). cond (c .seasonal) (cond b (adjusted (c .gamma) (x .S p) (exactResidual x y)) (pos 65536 *ℤ x .S p)) (pos 0)) (eq-eqb p (x .p) (sym same-p))
-      ∙ exact-here (c .seasonal) (c .gamma) (x .S p) (exactResidual x y) (pos 65536 *ℤ x .S p) (λ h. (none h .0, none h .1 p))
+      rw (eq-eqb p (x .p) (sym same-p), residual-at)
+      (exact-here (c .seasonal) (c .gamma) (pos 65536 *ℤ x .S p) (pos 65536 *ℤ E) (λ h. (none h .0, rw (none h .1 p)))
+      ∙ adjusted-law (c .gamma) (x .S p) (pos 65536 *ℤ x .S p) E refl)
 
-  S-there : (k : ℕ) → k ≢ p → exactReading c x y .S k ≡ pos 65536 *ℤ x .S k
+  S-there : (k : ℕ) → k ≢ p → exactReading c x y .S k ≡ pos 4294967296 *ℤ x .S k
   unfolding exactSeason
   S-there k h =
-      ap (λ (b : Bool). cond (c .seasonal) (cond b (adjusted (c .gamma) (x .S k) (exactResidual x y)) (pos 65536 *ℤ x .S k)) (pos 0)) (ne-eqb k (x .p) (λ q. h (q ∙ same-p)))
-      ∙ exact-there (c .seasonal) (x .S k) (adjusted (c .gamma) (x .S k) (exactResidual x y)) (λ z. none z .1 k)
+      rw (ne-eqb k (x .p) (λ q. h (q ∙ same-p)))
+      (exact-here (c .seasonal) 0 (pos 65536 *ℤ x .S k) (exactResidual c x y) (λ z. (refl, rw (none z .1 k)))
+      ∙ kept-law (x .S k) (exactResidual c x y))
 
 -- the rounded ones
 module _ (s : State) (e : ℤ) (flat : dampedTrend s ≡ pos 0) (none : hasSeason (s .model) ≡ false → s .gamma ≡ 0) (fits : s .index < length (s .seasonal)) where
-  level-new : Same (parts (corrected s e .level)) (addD (parts (s .level)) (parts (R (pos (s .alpha) *ℤ e))))
+  level-new : Same (parts (corrected s e .level)) (addD (parts (s .level)) (parts (share (s .alpha) e)))
   unfolding newLevel
-  level-new = omega (arith, sum (s .level +ℤ dampedTrend s) (R (pos (s .alpha) *ℤ e)), sum (s .level) (dampedTrend s), ap up flat, ap dn flat)
+  level-new = omega (arith, sum (s .level +ℤ dampedTrend s) (share (s .alpha) e), sum (s .level) (dampedTrend s), ap up flat, ap dn flat)
 
-  value-new : Same (parts (valueAt (corrected s e) (s .index))) (addD (parts (valueAt s (s .index))) (parts (R (pos (s .gamma) *ℤ e))))
+  value-new : Same (parts (valueAt (corrected s e) (s .index))) (addD (parts (valueAt s (s .index))) (parts (share (s .gamma) e)))
   unfolding newSeasonal newSeason seasonDue
   value-new =
-      rw (stored-here (hasSeason (s .model)) (s .seasonal) (s .index) (newSeason s e) fits)
-      (moved (hasSeason (s .model)) (getD (s .seasonal) (s .index) (pos 0)) (R (pos (s .gamma) *ℤ e)) (λ h. rw (none h) (R-none e)))
+      rw (stored-here (hasSeason (s .model)) (s .seasonal) (s .index) (newSeason (termsOf s) e) fits)
+      (moved (hasSeason (s .model)) (getD (s .seasonal) (s .index) (pos 0)) (share (s .gamma) e) (λ h. rw (none h) (share-none e)))
 
   value-other : (k : ℕ) → k ≢ s .index → valueAt (corrected s e) k ≡ valueAt s k
   unfolding newSeasonal
-  value-other k h = stored-there (hasSeason (s .model)) (s .seasonal) (s .index) k (newSeason s e) h
+  value-other k h = stored-there (hasSeason (s .model)) (s .seasonal) (s .index) k (newSeason (termsOf s) e) h
 
 -- a value that is not visited, at the next power
-kept : (Kn : ℕ) (v v′ Z Z′ : ℤ) → v′ ≡ v → Z′ ≡ pos 65536 *ℤ Z → Same (negD (err (65536 * Kn) (parts v′) (parts Z′))) (scaleD 65536 (negD (err Kn (parts v) (parts Z))))
-kept Kn v v′ Z Z′ e h = rw e (omega (arith, ap up h, ap dn h, scaled 65536 Z))
+kept : (Kn : ℕ) (v v′ Z Z′ : ℤ) → v′ ≡ v → Z′ ≡ pos 4294967296 *ℤ Z → Same (negD (err (4294967296 * Kn) (parts v′) (parts Z′))) (scaleD 4294967296 (negD (err Kn (parts v) (parts Z))))
+kept Kn v v′ Z Z′ e h = rw e (omega (arith, ap up h, ap dn h, scaled 4294967296 Z))
 
 swapped : (ε δ σ : D) → Same (addD ε (addD δ σ)) zeroD → Same (addD ε (addD σ δ)) zeroD
 swapped ε δ σ h = omega arith
 
-module _ (s : State) (x : Exact) (y : ℤ) (B C : ℕ) (hA : s .alpha + B ≡ 65536) (hG : s .gamma + C ≡ 65536) (flat : dampedTrend s ≡ pos 0) (same-p : x .p ≡ s .index) (none : hasSeason (s .model) ≡ false → (s .gamma ≡ 0) × ((k : ℕ) → x .S k ≡ pos 0)) (fits : s .index < length (s .seasonal)) where
+pub power-next : (n : ℕ) → 65536 ^ (2 * suc n) ≡ 4294967296 * 65536 ^ (2 * n)
+power-next n =
+    let e : 2 * suc n ≡ suc (suc (2 * n)) = omega arith in
+    rw (e, pow-succ' 65536 (suc (2 * n)), pow-succ' 65536 (2 * n)) (square (65536 ^ (2 * n)))
+  where
+    square : (P : ℕ) → 65536 * (65536 * P) ≡ 4294967296 * P
+    square P = omega arith
+
+module _ (s : State) (x : Exact) (y : ℤ) (B C : ℕ) (hA : 65536 * s .alpha + 65536 * B ≡ 4294967296) (hG : 65536 * s .gamma + 65536 * C ≡ 4294967296) (trendless : hasTrend (s .model) ≡ false) (same-p : x .p ≡ s .index) (none : hasSeason (s .model) ≡ false → (s .gamma ≡ 0) × ((k : ℕ) → x .S k ≡ pos 0)) (fits : s .index < length (s .seasonal)) where
   s′ : State
   s′ = afterReading s y
 
   x′ : Exact
   x′ = exactReading (parametersOf s) x y
 
-  residuals : Same (addD (err (power x) (parts (residualOf s y)) (parts (exactResidual x y))) (addD (err (power x) (parts (s .level)) (parts (x .L))) (err (power x) (parts (valueAt s (s .index))) (parts (x .S (s .index)))))) zeroD
-  unfolding residualOf seasonDue
-  residuals =
-      rw (residual-at (parametersOf s) x y (s .index) same-p none)
-      (residual-error (power x) (residualOf s y) (s .level) (dampedTrend s) (seasonDue s) (x .L) (x .S (s .index)) y flat refl)
+  flat : dampedTrend s ≡ pos 0
+  unfolding dampedTrend
+  flat = rw trendless
 
-  there : (k : ℕ) → k ≢ s .index → Same (placeErr s′ x′ k) (scaleD 65536 (placeErr s x k))
+  still : exactDamped (parametersOf s) x ≡ pos 0
+  unfolding exactDamped
+  still = rw trendless
+
+  residuals : Same (addD (err (power x) (parts (residualOf s y)) (parts (E (parametersOf s) x y (s .index) still same-p none))) (addD (err (power x) (parts (s .level)) (parts (x .L))) (err (power x) (parts (valueAt s (s .index))) (parts (x .S (s .index)))))) zeroD
+  unfolding residual seasonDue
+  residuals =
+      residual-error (power x) (residualOf s y) (s .level) (dampedTrend s) (seasonDue s) (x .L) (x .S (s .index)) y flat refl
+
+  there : (k : ℕ) → k ≢ s .index → Same (placeErr s′ x′ k) (scaleD 4294967296 (placeErr s x k))
   unfolding s′ x′
   there k h =
-      rw (pow-succ' 65536 (x .n))
-      (kept (power x) (valueAt s k) (valueAt (afterReading s y) k) (x .S k) (exactReading (parametersOf s) x y .S k) (value-other s (residualOf s y) flat (λ h. none h .0) fits k h) (S-there (parametersOf s) x y (s .index) same-p none k h))
+      rw (power-next (x .n))
+      (kept (power x) (valueAt s k) (valueAt (afterReading s y) k) (x .S k) (exactReading (parametersOf s) x y .S k) (value-other s (residualOf s y) flat (λ h. none h .0) fits k h) (S-there (parametersOf s) x y (s .index) still same-p none k h))
 
-  levels : Both (65536 * power x) (levelErr s′ x′) (mix B (levelErr s x) (s .alpha) (placeErr s x (s .index)))
+  levels : Both (4294967296 * power x) (levelErr s′ x′) (mix (65536 * B) (levelErr s x) (65536 * s .alpha) (placeErr s x (s .index)))
   unfolding s′ x′
   levels =
-      rw (pow-succ' 65536 (x .n))
-      (corrected-both (power x) (s .alpha) B hA (residualOf s y) (exactResidual x y) (s .level) (x .L) (valueAt s (s .index)) (x .S (s .index)) (s′ .level) (x′ .L) (level-new s (residualOf s y) flat (λ h. none h .0) fits) refl residuals)
+      rw (power-next (x .n))
+      (corrected-both (power x) (s .alpha) B hA (residualOf s y) (E (parametersOf s) x y (s .index) still same-p none) (s .level) (x .L) (valueAt s (s .index)) (x .S (s .index)) (s′ .level) (x′ .L) (level-new s (residualOf s y) flat (λ h. none h .0) fits) (L-new (parametersOf s) x y (s .index) still same-p none) residuals)
 
-  values : Both (65536 * power x) (negD (placeErr s′ x′ (s .index))) (mix C (negD (placeErr s x (s .index))) (s .gamma) (negD (levelErr s x)))
+  values : Both (4294967296 * power x) (negD (placeErr s′ x′ (s .index))) (mix (65536 * C) (negD (placeErr s x (s .index))) (65536 * s .gamma) (negD (levelErr s x)))
   unfolding s′ x′
   values =
-      rw (pow-succ' 65536 (x .n))
-      (corrected-both (power x) (s .gamma) C hG (residualOf s y) (exactResidual x y) (valueAt s (s .index)) (x .S (s .index)) (s .level) (x .L) (valueAt s′ (s .index)) (x′ .S (s .index)) (value-new s (residualOf s y) flat (λ h. none h .0) fits) (S-here (parametersOf s) x y (s .index) same-p none) (swapped _ _ _ residuals))
+      rw (power-next (x .n))
+      (corrected-both (power x) (s .gamma) C hG (residualOf s y) (E (parametersOf s) x y (s .index) still same-p none) (valueAt s (s .index)) (x .S (s .index)) (s .level) (x .L) (valueAt s′ (s .index)) (x′ .S (s .index)) (value-new s (residualOf s y) flat (λ h. none h .0) fits) (S-here (parametersOf s) x y (s .index) still same-p none) (swapped _ _ _ residuals))
 
-  pub reading-below : StepBelow 65536 (s .alpha) B (s .gamma) C (power x) (s .index) (levelErr s x) (placeErr s x) (levelErr (afterReading s y) (exactReading (parametersOf s) x y)) (placeErr (afterReading s y) (exactReading (parametersOf s) x y))
+  pub reading-below : StepBelow 4294967296 (65536 * s .alpha) (65536 * B) (65536 * s .gamma) (65536 * C) (power x) (s .index) (levelErr s x) (placeErr s x) (levelErr (afterReading s y) (exactReading (parametersOf s) x y)) (placeErr (afterReading s y) (exactReading (parametersOf s) x y))
   unfolding s′ x′
   reading-below = record { level = levels .0; here = values .1; there = there }
 
-  pub reading-above : StepBelow 65536 (s .alpha) B (s .gamma) C (power x) (s .index) (negD (levelErr s x)) (negs (placeErr s x)) (negD (levelErr (afterReading s y) (exactReading (parametersOf s) x y))) (negs (placeErr (afterReading s y) (exactReading (parametersOf s) x y)))
+  pub reading-above : StepBelow 4294967296 (65536 * s .alpha) (65536 * B) (65536 * s .gamma) (65536 * C) (power x) (s .index) (negD (levelErr s x)) (negs (placeErr s x)) (negD (levelErr (afterReading s y) (exactReading (parametersOf s) x y))) (negs (placeErr (afterReading s y) (exactReading (parametersOf s) x y)))
   unfolding s′ x′
   reading-above = record { level = levels .1; here = values .0; there = λ k h. sym (there k h) }

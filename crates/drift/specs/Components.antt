@@ -1,62 +1,56 @@
--- Document 01, "One step": the component form, in exact fractions and multiplied out, for every model.
-use Prim.Native.Nat.{ℕ, _^_, _<_}
-use mathlib.Core.Bool.{cond}
+-- Document 01, "One step": the exact step of every model is the component form, multiplied out, and the step is within one unit (the paper's grain) of it.
+use Prim.Native.Nat.{ℕ, suc, _*_, _^_, _<_}
+use mathlib.Core.Bool.{true}
 use mathlib.Core.Path.{_≡_}
 use lib.IntN.{ℤ, pos, _+ℤ_, _-ℤ_, _*ℤ_}
-use Rattle.state.specs.Models.{hasTrend, hasSeason}
+use lib.ListN.{length, getD}
+use Rattle.state.specs.States.{check}
 use Rattle.state.specs.declared.State.{State}
+use Rattle.ets.specs.Steps.{afterReading}
+use Rattle.drift.specs.Exact.{Parameters, parametersOf, Exact, opened, exactDamped, exactReading}
+use Rattle.drift.specs.Limits.{AtMost}
 
--- l, b and the season value at place p, in fractions: whole numbers over 65536 ^ n
-pub record Values : Type 0 where
-  pub n : ℕ
-  pub l : ℤ
-  pub b : ℤ
-  pub s : ℤ
+module _ (c : Parameters) (x : Exact) (y : ℤ) where
+  -- y, l and s over the power of d
+  abbrev pub reading : ℤ
+  reading = pos (65536 ^ suc (2 * x .n)) *ℤ (pos 65536 *ℤ y)
 
--- m has the model and its parameters
-module _ (m : State) (x : Values) (y : ℤ) where
-  -- ---- over 65536 ^ (n + 1): l; d = φ × b, or 0 without trend; s, 0 without season; the reading in grains
   abbrev pub oldLevel : ℤ
-  oldLevel = pos 65536 *ℤ x .l
-
-  abbrev pub exactDamped : ℤ
-  exactDamped = cond (hasTrend (m .model)) (pos (m .phi) *ℤ x .b) (pos 0)
+  oldLevel = pos 65536 *ℤ x .L
 
   abbrev pub oldSeason : ℤ
-  oldSeason = cond (hasSeason (m .model)) (pos 65536 *ℤ x .s) (pos 0)
+  oldSeason = pos 65536 *ℤ x .S (x .p)
 
-  abbrev pub reading : ℤ
-  reading = pos 65536 *ℤ (pos (65536 ^ x .n) *ℤ (pos 65536 *ℤ y))
-
-  -- e = 65536 × y − q with q = l + d + s
-  abbrev pub exactError : ℤ
-  exactError = reading -ℤ (oldLevel +ℤ exactDamped +ℤ oldSeason)
-
-  -- ---- over 65536 ^ (n + 2), the step with the fraction v/65536 wherever R(v) stands
-  -- new l = l + d + α × e
-  unfoldable pub exactLevel : ℤ
-  exactLevel = pos 65536 *ℤ (oldLevel +ℤ exactDamped) +ℤ pos (m .alpha) *ℤ exactError
-
-  -- new b = d + β × e
-  unfoldable pub exactTrend : ℤ
-  exactTrend = pos 65536 *ℤ exactDamped +ℤ pos (m .beta) *ℤ exactError
-
-  -- new s = s + γ × e
-  unfoldable pub exactSeasonal : ℤ
-  exactSeasonal = pos 65536 *ℤ oldSeason +ℤ pos (m .gamma) *ℤ exactError
+  -- new l, new b and new s at place p
+  abbrev pub new : Exact
+  new = exactReading c x y
 
   -- β × (new l − l) + (α − β) × d: the component form's new b, times α
-  unfoldable pub alphaTrend : ℤ
+  abbrev pub alphaTrend : ℤ
   alphaTrend =
-      pos (m .beta) *ℤ (exactLevel -ℤ pos 65536 *ℤ oldLevel)
-      +ℤ (pos (m .alpha) -ℤ pos (m .beta)) *ℤ (pos 65536 *ℤ exactDamped)
+      pos (c .beta) *ℤ (new .L -ℤ pos 65536 *ℤ oldLevel)
+      +ℤ (pos (c .alpha) -ℤ pos (c .beta)) *ℤ (pos 65536 *ℤ exactDamped c x)
 
   -- new l = α(y − s) + (1 − α)(l + d); new b = (β/α)(new l − l) + (1 − β/α)d for α above 0, and no other b is; new s = γ(y − l − d) + (1 − γ)s
   pub record ComponentForm : Type 0 where
-    pub level : exactLevel ≡ pos (m .alpha) *ℤ (reading -ℤ oldSeason) +ℤ (pos 65536 -ℤ pos (m .alpha)) *ℤ (oldLevel +ℤ exactDamped)
-    pub trend : pos (m .alpha) *ℤ exactTrend ≡ alphaTrend
-    pub only-trend : 0 < m .alpha → (b : ℤ) → pos (m .alpha) *ℤ b ≡ alphaTrend → b ≡ exactTrend
-    pub season : exactSeasonal ≡ pos (m .gamma) *ℤ (reading -ℤ oldLevel -ℤ exactDamped) +ℤ (pos 65536 -ℤ pos (m .gamma)) *ℤ oldSeason
+    pub level : new .L ≡ pos (c .alpha) *ℤ (reading -ℤ oldSeason) +ℤ (pos 65536 -ℤ pos (c .alpha)) *ℤ (oldLevel +ℤ exactDamped c x)
+    pub trend : pos (c .alpha) *ℤ new .T ≡ alphaTrend
+    pub only-trend : 0 < c .alpha → (b : ℤ) → pos (c .alpha) *ℤ b ≡ alphaTrend → b ≡ new .T
+    pub season : c .seasonal ≡ true → new .S (x .p) ≡ pos (c .gamma) *ℤ (reading -ℤ oldLevel -ℤ exactDamped c x) +ℤ (pos 65536 -ℤ pos (c .gamma)) *ℤ oldSeason
 
 abbrev pub ComponentForms : Type 0
-ComponentForms = (m : State) (x : Values) (y : ℤ) → ComponentForm m x y
+ComponentForms = (c : Parameters) (x : Exact) (y : ℤ) → ComponentForm c x y
+
+-- one unit, with an exact number of one step
+abbrev pub OneUnit : ℤ → ℤ → Type 0
+OneUnit z Z = AtMost 1 1 2 z Z
+
+-- one step from a state, and the exact one from the same state, in l, b and each season value
+pub record StepError (s : State) (y : ℤ) : Type 0 where
+  pub level : OneUnit (afterReading s y .level) (exactReading (parametersOf s) (opened s) y .L)
+  pub trend : OneUnit (afterReading s y .trend) (exactReading (parametersOf s) (opened s) y .T)
+  pub seasons : (k : ℕ) → k < s .period → OneUnit (getD (afterReading s y .seasonal) k (pos 0)) (exactReading (parametersOf s) (opened s) y .S k)
+
+-- of each state that the checks let pass
+abbrev pub StepErrors : Type 0
+StepErrors = (s : State) → length (s .seasonal) ≡ 48 → check s ≡ 0 → (y : ℤ) → StepError s y

@@ -1,63 +1,85 @@
--- Document 01, "One step": the exact recursion of demand 3, of a model without trend. L and each S are whole numbers over 65536 ^ n.
-use Prim.Native.Nat.{ℕ, zero, suc, _+_, _-_, _%_, _^_}
+-- Document 01, "One step": the exact recursion of demand 3, which is the step and the forecast with the fraction v/65536 wherever R(v) stands, of every model.
+-- A fraction is a whole number over a power of 65536. A reading multiplies by φ and then by a gain, so after n of them L, T and each S are over 65536 ^ (2n).
+use Prim.Native.Nat.{ℕ, zero, suc, _+_, _*_, _-_, _%_, _^_}
 use mathlib.Core.Bool.{Bool, cond}
 use mathlib.Core.List.{List, [], _∷_, _++_}
 use lib.Dec.{eqb}
 use lib.IntN.{ℤ, pos, _+ℤ_, _-ℤ_, _*ℤ_}
 use lib.ListN.{getD, take}
 use Rattle.state.specs.Fixed.{isSentinel}
-use Rattle.state.specs.Models.{hasSeason}
+use Rattle.state.specs.Models.{hasTrend, hasSeason}
 use Rattle.state.specs.declared.State.{State}
 use Rattle.ets.specs.Steps.{nextIndex}
+use Rattle.traces.specs.Calls.{Event, observed, unobserved, series, horizon, horizons}
 
--- the model's parameters, which no call changes
+-- the model and its parameters, which no call changes
 pub record Parameters : Type 0 where
+  pub trended : Bool
   pub seasonal : Bool
   pub period : ℕ
   pub alpha : ℕ
+  pub beta : ℕ
   pub gamma : ℕ
+  pub phi : ℕ
 
 abbrev pub parametersOf : State → Parameters
-parametersOf s = record { seasonal = hasSeason (s .model); period = s .period; alpha = s .alpha; gamma = s .gamma }
+parametersOf s =
+    record {
+      trended = hasTrend (s .model);
+      seasonal = hasSeason (s .model);
+      period = s .period;
+      alpha = s .alpha;
+      beta = s .beta;
+      gamma = s .gamma;
+      phi = s .phi;
+    }
 
--- L, a value S for each place, p and n; and how many missing readings were accepted
+-- L, the trend T, a value S for each place, p and n; and how many missing readings were accepted
 pub record Exact : Type 0 where
   pub L : ℤ
+  pub T : ℤ
   pub S : ℕ → ℤ
   pub p : ℕ
   pub n : ℕ
   pub missed : ℕ
 
--- L, S and p start as in the opening state, n at 0; without season S is 0
+-- L, T, S and p start as in the opening state, n at 0; without season S is 0
 abbrev pub opened : State → Exact
 opened s =
     record {
       L = s .level;
+      T = s .trend;
       S = λ k. cond (hasSeason (s .model)) (getD (s .seasonal) k (pos 0)) (pos 0);
       p = s .index;
       n = 0;
       missed = 0;
     }
 
--- E = 65536 × y − L − S
-unfoldable pub exactResidual : Exact → ℤ → ℤ
-exactResidual x y = pos (65536 ^ x .n) *ℤ (pos 65536 *ℤ y) -ℤ x .L -ℤ x .S (x .p)
+-- ---- a reading. d = φ × T, or 0 without trend: over the next power
+unfoldable pub exactDamped : Parameters → Exact → ℤ
+exactDamped c x = cond (c .trended) (pos (c .phi) *ℤ x .T) (pos 0)
 
--- z + gain × E, over the next power of 65536
+-- E = 65536 × y − (L + d + S), over the next power
+unfoldable pub exactResidual : Parameters → Exact → ℤ → ℤ
+exactResidual c x y =
+    pos (65536 ^ suc (2 * x .n)) *ℤ (pos 65536 *ℤ y) -ℤ (pos 65536 *ℤ x .L +ℤ exactDamped c x +ℤ pos 65536 *ℤ x .S (x .p))
+
+-- z + gain × E, over the power after that
 unfoldable pub adjusted : ℕ → ℤ → ℤ → ℤ
 adjusted gain z e = pos 65536 *ℤ z +ℤ pos gain *ℤ e
 
--- with a season, S at p becomes S + γ × E, and the others are brought to the next power; without season S is 0 throughout
+-- with a season, S at p becomes S + γ × E, and the others are brought to the same power; without season S is 0 throughout
 unfoldable pub exactSeason : Parameters → Exact → ℤ → ℕ → ℤ
 exactSeason c x e k =
-    cond (c .seasonal) (cond (eqb k (x .p)) (adjusted (c .gamma) (x .S k) e) (pos 65536 *ℤ x .S k)) (pos 0)
+    cond (c .seasonal) (adjusted (cond (eqb k (x .p)) (c .gamma) 0) (pos 65536 *ℤ x .S k) e) (pos 0)
 
--- reading y accepted: L becomes L + α × E, p moves as in the step, n rises by one
+-- reading y accepted: L becomes L + d + α × E, T becomes d + β × E, p moves as in the step, n rises by one
 abbrev pub exactReading : Parameters → Exact → ℤ → Exact
 exactReading c x y =
     record {
-      L = adjusted (c .alpha) (x .L) (exactResidual x y);
-      S = exactSeason c x (exactResidual x y);
+      L = adjusted (c .alpha) (pos 65536 *ℤ x .L +ℤ exactDamped c x) (exactResidual c x y);
+      T = adjusted (c .beta) (exactDamped c x) (exactResidual c x y);
+      S = exactSeason c x (exactResidual c x y);
       p = nextIndex (c .period) (x .p);
       n = suc (x .n);
       missed = x .missed;
@@ -65,47 +87,47 @@ exactReading c x y =
 
 -- missing reading accepted: p moves as in the step, nothing else changes
 abbrev pub exactMissing : Parameters → Exact → Exact
-exactMissing c x = record { L = x .L; S = x .S; p = nextIndex (c .period) (x .p); n = x .n; missed = suc (x .missed) }
+exactMissing c x =
+    record { L = x .L; T = x .T; S = x .S; p = nextIndex (c .period) (x .p); n = x .n; missed = suc (x .missed) }
 
 -- a reading that a batch took: where marked, a missing one
 unfoldable pub exactTake : Parameters → Exact → ℤ → Exact
 exactTake c x y = cond (isSentinel y) (exactMissing c x) (exactReading c x y)
 
--- forecast at h: L plus, with a season, S at place (p + h − 1) modulo m
-unfoldable pub exactForecast : Parameters → Exact → ℕ → ℤ
-exactForecast c x h = x .L +ℤ cond (c .seasonal) (x .S ((x .p + h - 1) % c .period)) (pos 0)
-
--- ---- what it is fed: readings and horizons and, of an answer, only whether it was accepted and how many readings a batch took
-pub data Input : Type 0 where
-  observed : ℤ → Input
-  unobserved : Input
-  series : List ℤ → Input
-  horizon : ℕ → Input
-  horizons : ℕ → Input
-
-pub record Told : Type 0 where
-  pub accepted : Bool
-  pub taken : ℕ
-
 unfoldable pub exactBatch : Parameters → Exact → List ℤ → Exact
 exactBatch c x [] = x
 exactBatch c x (y ∷ ys) = exactBatch c (exactTake c x y) ys
 
--- where it stands after a call
-unfoldable pub exactAfter : Parameters → Exact → Input → Told → Exact
-exactAfter c x (observed y) t = cond (t .accepted) (exactReading c x y) x
-exactAfter c x unobserved t = cond (t .accepted) (exactMissing c x) x
-exactAfter c x (series ys) t = exactBatch c x (take (t .taken) ys)
-exactAfter c x (horizon h) t = x
-exactAfter c x (horizons h) t = x
+-- ---- a forecast. d1 = φ × T, and each next d is φ × the one before: dj is over 65536 ^ (2n + j)
+unfoldable pub exactTrendAt : ℕ → ℤ → ℕ → ℤ
+exactTrendAt F b zero = b
+exactTrendAt F b (suc j) = pos F *ℤ exactTrendAt F b j
 
--- ---- what an answer is compared with: L and n; or the exact forecast, n, and how many missing readings were accepted before it
+-- L, plus d1 to dh, over 65536 ^ (2n + h)
+unfoldable pub exactLine : Parameters → Exact → ℕ → ℤ
+exactLine c x zero = x .L
+exactLine c x (suc h) = pos 65536 *ℤ exactLine c x h +ℤ exactTrendAt (c .phi) (x .T) (suc h)
+
+-- plus, with a season, S at place (p + h − 1) modulo m
+unfoldable pub exactForecast : Parameters → Exact → ℕ → ℤ
+exactForecast c x h =
+    exactLine c x h +ℤ pos (65536 ^ h) *ℤ cond (c .seasonal) (x .S ((x .p + h - 1) % c .period)) (pos 0)
+
+-- ---- where it stands after a call; it is fed no more than the event
+unfoldable pub exactAfter : Parameters → Exact → Event → Exact
+exactAfter c x (observed y accepted) = cond accepted (exactReading c x y) x
+exactAfter c x (unobserved accepted) = cond accepted (exactMissing c x) x
+exactAfter c x (series ys taken) = exactBatch c x (take taken ys)
+exactAfter c x (horizon h accepted) = x
+exactAfter c x (horizons h accepted) = x
+
+-- ---- what a number of an answer is compared with: L and n; or the exact forecast, its power, and how many missing readings were accepted before it
 pub data Expected : Type 0 where
-  level-is : ℤ → ℕ → Expected
-  forecast-is : ℤ → ℕ → ℕ → Expected
+  level-is : (L : ℤ) (n : ℕ) → Expected
+  forecast-is : (F : ℤ) (power missed : ℕ) → Expected
 
 abbrev pub expectedForecast : Parameters → Exact → ℕ → Expected
-expectedForecast c x h = forecast-is (exactForecast c x h) (x .n) (x .missed)
+expectedForecast c x h = forecast-is (exactForecast c x h) (2 * x .n + h) (x .missed)
 
 -- L and n right after each reading of a batch
 unfoldable pub expectedLevels : Parameters → Exact → List ℤ → List Expected
@@ -118,9 +140,9 @@ unfoldable pub expectedForecasts : Parameters → Exact → ℕ → List Expecte
 expectedForecasts c x zero = []
 expectedForecasts c x (suc h) = expectedForecasts c x h ++ (expectedForecast c x (suc h) ∷ [])
 
-unfoldable pub expected : Parameters → Exact → Input → Told → List Expected
-expected c x (observed y) t = []
-expected c x unobserved t = []
-expected c x (series ys) t = expectedLevels c x (take (t .taken) ys)
-expected c x (horizon h) t = cond (t .accepted) (expectedForecast c x h ∷ []) []
-expected c x (horizons h) t = cond (t .accepted) (expectedForecasts c x h) []
+unfoldable pub expected : Parameters → Exact → Event → List Expected
+expected c x (observed y accepted) = []
+expected c x (unobserved accepted) = []
+expected c x (series ys taken) = expectedLevels c x (take taken ys)
+expected c x (horizon h accepted) = cond accepted (expectedForecast c x h ∷ []) []
+expected c x (horizons h accepted) = cond accepted (expectedForecasts c x h) []

@@ -1,5 +1,5 @@
 pub mod Exact
-pub mod Calls
 pub mod Limits
 pub mod Components
-pub mod ExactForecast
+pub mod ForecastErrors
+pub mod Pins

@@ -8,51 +8,64 @@ use lib.ListN.{length, getD}
 use Rattle.state.specs.Models.{trendOf}
 use Rattle.state.specs.States.{check}
 use Rattle.state.specs.declared.State.{State}
-use Rattle.drift.specs.Exact.{Parameters, parametersOf, Expected, level-is, forecast-is}
-use Rattle.drift.specs.Calls.{Call, Trace, traceOf}
+use Rattle.traces.specs.Calls.{Call, result}
+use Rattle.drift.specs.Exact.{Parameters, parametersOf, Exact, opened, exactAfter, Expected, level-is, forecast-is, expected}
 
--- the distance in grains of z from Z over 65536 ^ n, times 65536 ^ n
-unfoldable pub distance : ℕ → ℤ → ℤ → ℕ
-distance n z Z = natAbs (pos (65536 ^ n) *ℤ z -ℤ Z)
+-- the distance of z from Z over 65536 ^ power, times 65536 ^ power
+abbrev pub distance : ℕ → ℤ → ℤ → ℕ
+distance power z Z = natAbs (pos (65536 ^ power) *ℤ z -ℤ Z)
 
--- at most n/2
-unfoldable pub HalfPerReading : ℕ → ℤ → ℤ → Type 0
-HalfPerReading n z Z = 2 * distance n z Z ≤ n * 65536 ^ n
+-- at most num/den units (the paper's grains): where den is 0 it says nothing
+unfoldable pub AtMost : ℕ → ℕ → ℕ → ℤ → ℤ → Type 0
+AtMost num den power z Z = den * distance power z Z ≤ num * 65536 ^ power
 
--- at most 1/(2α)
-unfoldable pub PlainBound : Parameters → ℕ → ℤ → ℤ → Type 0
-PlainBound c n z Z = 2 * c .alpha * distance n z Z ≤ 65536 * 65536 ^ n
+-- n/2
+abbrev pub HalfPerReading : ℕ → ℤ → ℤ → Type 0
+HalfPerReading n z Z = AtMost n 2 (2 * n) z Z
+
+-- 1/(2α), for α above 0: A is 65536 × α
+abbrev pub PlainBound : Parameters → ℕ → ℤ → ℤ → Type 0
+PlainBound c power z Z = AtMost 65536 (2 * c .alpha) power z Z
 
 -- γ (1 − α)^m, times 65536 ^ (m + 1)
 abbrev pub divisor : Parameters → ℕ
 divisor c = c .gamma * (65536 - c .alpha) ^ c .period
 
--- at most m + 2m/(γ (1 − α)^m)
-unfoldable pub SeasonalBound : Parameters → ℕ → ℤ → ℤ → Type 0
-SeasonalBound c n z Z =
-    divisor c * distance n z Z ≤ (c .period * divisor c + 2 * (c .period * 65536 ^ suc (c .period))) * 65536 ^ n
+-- m + 2m/(γ (1 − α)^m), for γ above 0 and α below 1: G is 65536 × γ
+abbrev pub SeasonalBound : Parameters → ℕ → ℤ → ℤ → Type 0
+SeasonalBound c power z Z = AtMost (c .period * divisor c + 2 * (c .period * 65536 ^ suc (c .period))) (divisor c) power z Z
 
--- a level in a cell: n/2. A forecast with no missing reading accepted before it: 1/(2α) without season, the limit above with one (multiplied out, a limit that divides by 0 says nothing)
+-- a level in a cell: n/2. A forecast with no missing reading accepted before it: 1/(2α) without season, the season's limit with one
 unfoldable pub WithinLimit : Parameters → ℤ → Expected → Type 0
 WithinLimit c z (level-is L n) = HalfPerReading n z L
-WithinLimit c z (forecast-is F n missed) =
+WithinLimit c z (forecast-is F power missed) =
     missed ≡ 0
-    → (c .seasonal ≡ false → PlainBound c n z F)
-    × (c .seasonal ≡ true → SeasonalBound c n z F)
+    → (c .seasonal ≡ false → PlainBound c power z F)
+    × (c .seasonal ≡ true → SeasonalBound c power z F)
 
 -- two lists of one length, number by number
 pub data EachWithin (c : Parameters) : List ℤ → List Expected → Type 0 where
   none : EachWithin c [] []
   more : {z : ℤ} {e : Expected} {zs : List ℤ} {es : List Expected} → WithinLimit c z e → EachWithin c zs es → EachWithin c (z ∷ zs) (e ∷ es)
 
--- demand 3, of the trace of a list: the level and each of the m season values that stand after it by n/2, and every number of its answers by its limit
-pub record WithinLimits (c : Parameters) (r : Trace) : Type 0 where
-  pub level : HalfPerReading (r .exact .n) (r .state .level) (r .exact .L)
-  pub seasons : (k : ℕ) → k < c .period → HalfPerReading (r .exact .n) (getD (r .state .seasonal) k (pos 0)) (r .exact .S k)
-  pub answers : EachWithin c (r .numbers) (r .expected)
+-- the level and each of the m season values, by n/2
+pub record StateWithin (c : Parameters) (s : State) (x : Exact) : Type 0 where
+  pub level : HalfPerReading (x .n) (s .level) (x .L)
+  pub seasons : (k : ℕ) → k < c .period → HalfPerReading (x .n) (getD (s .seasonal) k (pos 0)) (x .S k)
 
--- from any state of a trendless model that checks 5, 6, 7, 9 and 10 let pass, and for any list of calls (the array of a state has 48 cells)
+-- the single claim about a list of calls from the state s, beside which the exact recursion runs from x: each number of an answer is within its limit of what
+-- the recursion has for it there, and the state that stands after the list is within n/2
+unfoldable pub Claim : Parameters → State → Exact → List Call → Type 0
+Claim c s x [] = StateWithin c s x
+Claim c s x (k ∷ ks) =
+    let r = result s k in
+    EachWithin c (r .numbers) (expected c x (r .event)) × Claim c (r .state) (exactAfter c x (r .event)) ks
+
+-- a state of a trendless model that checks 5, 6, 7, 9 and 10 let pass (the array of a state has 48 cells)
+pub record Opening (s : State) : Type 0 where
+  pub cells : length (s .seasonal) ≡ 48
+  pub passes : check s ≡ 0
+  pub trendless : trendOf (s .model) ≡ 0
+
 abbrev pub Demand3 : Type 0
-Demand3 =
-    (s : State) → length (s .seasonal) ≡ 48 → check s ≡ 0 → trendOf (s .model) ≡ 0
-    → (calls : List Call) → WithinLimits (parametersOf s) (traceOf s calls)
+Demand3 = (s : State) → Opening s → (calls : List Call) → Claim (parametersOf s) s (opened s) calls

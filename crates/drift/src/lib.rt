@@ -1,1 +1,30 @@
-// Demand 3 of document 01: rounding does not make a state wander. The crate has no function: see specs/ and proofs/.
+// Demand 3 of document 01: rounding does not make a state wander. Each function is a promise: it does nothing, and its contract is a theorem.
+ghost use Rattle.drift.specs.Components.{ComponentForms, StepErrors};
+ghost use Rattle.drift.specs.ForecastErrors.{ForecastErrors};
+ghost use Rattle.drift.specs.Limits.{Demand3};
+ghost use Rattle.drift.specs.Pins.{Pins};
+
+// Every list of calls from an opening state stays within the limits.
+pub fn demand3()
+    ensures { λ _. ⌜ Demand3 ⌝ }
+{}
+
+// The limits are no weaker than document 01 has them: claims that fail, runs that come up to them, runs that need their conditions.
+pub fn pins()
+    ensures { λ _. ⌜ Pins ⌝ }
+{}
+
+// The exact step is the component form, for every model.
+pub fn component_form()
+    ensures { λ _. ⌜ ComponentForms ⌝ }
+{}
+
+// The step is within one unit of the exact step, for every model.
+pub fn step_errors()
+    ensures { λ _. ⌜ StepErrors ⌝ }
+{}
+
+// The forecast from the same state is exact without damping, and within h × (h + 1)/4 units with it.
+pub fn forecast_errors()
+    ensures { λ _. ⌜ ForecastErrors ⌝ }
+{}

@@ -6,13 +6,12 @@ use mathlib.Core.List.{List, [], append-nil}
 use borrow.Author.Tests.{eq-eqb, eqb-true}
 use lib.Dec.{eqb}
 use lib.IntN.{ℤ}
-use lib.ListN.{length, length-set, set}
-use Rattle.state.specs.Models.{hasSeason}
+use lib.ListN.{length}
 use Rattle.state.specs.States.{check}
 use Rattle.state.specs.declared.State.{State}
-use Rattle.ets.specs.Steps.{termsOf, stepCode, missingCode, residualOf, afterReading, afterMissing, newSeason, newSeasonal, step, missing}
+use Rattle.ets.specs.Steps.{stepCode, missingCode, residualOf, afterReading, afterMissing, step, missing}
 use Rattle.ets.specs.Forecasts.{forecastCode, forecastOf}
-use Rattle.ets.proofs.Kept.{reading-kept, missing-kept}
+use Rattle.ets.proofs.Kept.{cells-kept, reading-kept, missing-kept}
 use Rattle.snapshot.specs.Answers.{accepting}
 use Rattle.snapshot.specs.Bytes.{AreBytes}
 use Rattle.snapshot.specs.Snapshots.{openCode, openOffset, decoded, encoded}
@@ -51,21 +50,13 @@ module _ (s : State) (full : length (s .seasonal) ≡ 48) (ok : check s ≡ 0) (
       go true e = let k = keeps (eqb-true (code s) 0 e) in in-place-encoded (next s) (k .1) (k .0) .1
       go false e = in-place-encoded s full ok .1
 
-length-next : (s : State) (e : ℤ) → length (newSeasonal s e) ≡ length (s .seasonal)
-unfolding newSeasonal
-length-next s e = go (hasSeason (s .model))
-  where
-    go : (t : Bool) → length (cond t (set (s .seasonal) (s .index) (newSeason (termsOf s) e)) (s .seasonal)) ≡ length (s .seasonal)
-    go true = length-set (s .seasonal) (s .index) (newSeason (termsOf s) e)
-    go false = refl
-
 step-direct : (s : State) → length (s .seasonal) ≡ 48 → check s ≡ 0 → (y : ℤ) → StepInPlace s y
 unfolding inPlaceStepCode inPlaceStepBytes inPlaceResidual step
 step-direct s full ok y =
     record {
       code = code-is s full ok (λ t. stepCode t y);
       bytes = bytes-are s full ok (λ t. stepCode t y) (λ t. afterReading t y);
-      holds = state-is s full ok (λ t. stepCode t y) (λ t. afterReading t y) (λ z. (reading-kept s y full z, length-next s (residualOf s y) ∙ full));
+      holds = state-is s full ok (λ t. stepCode t y) (λ t. afterReading t y) (λ z. (reading-kept s y full z, cells-kept s (residualOf s y) ∙ full));
       number = number-is s full ok (λ t. stepCode t y) (λ t. residualOf t y);
     }
 

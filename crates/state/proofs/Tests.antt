@@ -118,7 +118,7 @@ pub model-law : (b : ℕ) → b < 256 → (eqb (b / 8) 0 && not (eqb (b % 4) 3))
 unfolding model-test
 model-law b h = same-is _ _ (both _ _ (model-at b h) .0)
 
-valid-small : (b : ℕ) → validModel b ≡ true → b < 256
+pub valid-small : (b : ℕ) → validModel b ≡ true → b < 256
 valid-small b v = go (decLe 256 b)
   where
     go : Dec (256 ≤ b) → b < 256

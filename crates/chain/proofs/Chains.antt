@@ -1,0 +1,27 @@
+-- What a caller is answered is what demand 3 says of a list of two calls.
+use Prim.Native.Nat.{ℕ, _<_}
+use mathlib.Core.Path.{_≡_}
+use mathlib.Core.List.{List, [], _∷_}
+use lib.IntN.{ℤ}
+use lib.ListN.{getD}
+use Rattle.state.specs.Rejections.{answerCode, answerValue}
+use Rattle.state.specs.declared.State.{State}
+use Rattle.ets.specs.Steps.{step}
+use Rattle.ets.specs.Forecasts.{forecast}
+use Rattle.snapshot.specs.Snapshots.{decoded}
+use Rattle.snapshot.specs.InPlace.{inPlaceCode, inPlaceStepBytes, inPlaceForecastCode, inPlaceForecast}
+use Rattle.traces.specs.Calls.{followed, Reading, Forecast, InPlaceReading, InPlaceForecast, result}
+use Rattle.traces.proofs.Lists.{slice-laws}
+use Rattle.drift.specs.Limits.{Claim}
+use Rattle.drift.proofs.Drift.{demand3}
+use Rattle.chain.specs.Chains.{ForecastWithin}
+
+pub directly : (s : State) (y : ℤ) (h : ℕ) → ForecastWithin s (Reading y) h (answerCode (forecast (step s y .state) h)) (answerValue (forecast (step s y .state) h))
+unfolding Claim result
+directly s y h o = demand3 s o (Reading y ∷ Forecast h ∷ []) .1 .0
+
+pub in-place : (d : List ℕ) → ((i : ℕ) → getD d i 0 < 256) → inPlaceCode d ≡ 0 → (y : ℤ) (h : ℕ) (old : ℤ) → ForecastWithin (decoded d) (InPlaceReading (followed []) y) h (inPlaceForecastCode (inPlaceStepBytes d y) h) (inPlaceForecast (inPlaceStepBytes d y) h old)
+unfolding Claim result
+in-place d b z y h old o =
+    let next = slice-laws .reading d (decoded d) (slice-laws .opening d b z) y .bytes in
+    rw next (demand3 (decoded d) o (InPlaceReading (followed []) y ∷ InPlaceForecast (followed []) h old ∷ []) .1 .0)

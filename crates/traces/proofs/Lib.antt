@@ -1,0 +1,3 @@
+pub mod Slices
+pub mod Results
+pub mod Lists

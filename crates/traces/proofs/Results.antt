@@ -1,0 +1,145 @@
+-- How a call works on a state that passes its checks, handed in directly or in place: as a reading, a missing one, a batch, or a forecast for one horizon or for all.
+use Prim.Native.Nat.{ℕ}
+use mathlib.Core.Path.{_≡_, refl, sym, _∙_, ap}
+use mathlib.Core.Bool.{Bool, true, false, cond}
+use mathlib.Core.List.{List, [], _∷_}
+use lib.Dec.{eqb}
+use lib.IntN.{ℤ}
+use lib.ListN.{length, take, drop}
+use lib.Seq.{take-at}
+use borrow.Author.Tests.{eqb-true}
+use Rattle.state.specs.Rejections.{_then_, outcomeCode, answerCode, answerValue}
+use Rattle.state.specs.States.{check}
+use Rattle.state.specs.declared.State.{State}
+use Rattle.state.proofs.Answers.{outcome-code, answer-code}
+use Rattle.state.proofs.Tests.{then-zero}
+use Rattle.ets.specs.Steps.{stepCode, missingCode, residualOf, newSeason, newSeasonal, afterReading, afterMissing, step, missing}
+use Rattle.ets.specs.Batches.{batchRun, batch, batchLevels}
+use Rattle.ets.specs.Forecasts.{forecastCode, forecastOf, forecast, forecastList, forecastsCode, forecasts, forecastCells, forecastTo, forecastCellsTo, forecastsTo}
+use Rattle.ets.proofs.ForecastLaws.{list-length}
+use Rattle.ets.proofs.Kept.{cells-kept, reading-kept, missing-kept}
+use Rattle.snapshot.specs.Snapshots.{encoded, decoded}
+use Rattle.snapshot.specs.InPlace.{inPlaceCode, inPlaceStepCode, inPlaceStepBytes, inPlaceMissingCode, inPlaceMissingBytes, inPlaceForecastCode, inPlaceForecast}
+use Rattle.traces.specs.Calls.{Slice, sliceOf, stateIn, Call, Reading, Missing, Batch, Forecast, Forecasts, InPlaceReading, InPlaceMissing, InPlaceForecast, observed, unobserved, series, horizon, horizons, Result, answered, result}
+use Rattle.traces.proofs.Slices.{accepted-holds, untouched-holds, rewritten-holds}
+
+-- n is a call's rejection, or 0
+pub by-code {ℓ} : (P : Bool → Type ℓ) (n : ℕ) → (n ≡ 0 → P true) → P false → P (eqb n 0)
+by-code P n f g = go (eqb n 0) refl
+  where
+    go : (b : Bool) → eqb n 0 ≡ b → P b
+    go true e = f (eqb-true n 0 e)
+    go false e = g
+
+pub data Works (s : State) : Result → Type 0 where
+  reads : (y : ℤ) (n : ℕ) → (n ≡ 0 → stepCode s y ≡ 0) → Works s (answered (cond (eqb n 0) (afterReading s y) s) (observed y) n [])
+  misses : (n : ℕ) → (n ≡ 0 → missingCode s ≡ 0) → Works s (answered (cond (eqb n 0) (afterMissing s) s) unobserved n [])
+  takes : (ys : List ℤ) (room : ℕ) → Works s (record { state = batchRun s ys room .state; event = series ys (length (batchRun s ys room .levels)); numbers = batchRun s ys room .levels })
+  forecasts-one : (h n : ℕ) (v : ℤ) → (n ≡ 0 → v ≡ forecastOf s h) → Works s (answered s (horizon h) n (v ∷ []))
+  forecasts-all : (h n : ℕ) (zs : List ℤ) → (n ≡ 0 → zs ≡ forecastList s h) → Works s (answered s (horizons h) n zs)
+
+-- ---- handed in directly
+pub reading-code : (s : State) (y : ℤ) → answerCode (step s y .residual) ≡ stepCode s y
+unfolding step
+reading-code s y = answer-code (stepCode s y) (residualOf s y)
+
+pub missed-code : (s : State) → outcomeCode (missing s .outcome) ≡ missingCode s
+unfolding missing
+missed-code s = outcome-code (missingCode s)
+
+direct-reading : (s : State) (y : ℤ) → Works s (result s (Reading y))
+unfolding result step
+direct-reading s y = rw (reading-code s y) (reads y (stepCode s y) (λ z. z))
+
+direct-missing : (s : State) → Works s (result s Missing)
+unfolding result missing
+direct-missing s = rw (missed-code s) (misses (missingCode s) (λ z. z))
+
+-- the first `taken` cells are the levels
+batch-numbers : (s : State) (ys cells : List ℤ) → take (length (batchRun s ys (length cells) .levels)) (batchLevels s ys cells) ≡ batchRun s ys (length cells) .levels
+unfolding batchLevels
+batch-numbers s ys cells =
+    take-at (batchRun s ys (length cells) .levels) (drop (length (batchRun s ys (length cells) .levels)) cells) (length (batchRun s ys (length cells) .levels)) refl
+
+direct-batch : (s : State) (ys cells : List ℤ) → Works s (result s (Batch ys cells))
+unfolding result batch
+direct-batch s ys cells = rw (batch-numbers s ys cells) (takes ys (length cells))
+
+pub forecast-answer : (s : State) (h : ℕ) → forecastCode s h ≡ 0 → answerValue (forecast s h) ≡ forecastOf s h
+unfolding forecastTo
+forecast-answer s h z = rw z
+
+pub forecast-rejection : (s : State) (h : ℕ) → answerCode (forecast s h) ≡ forecastCode s h
+unfolding forecastTo
+forecast-rejection s h = answer-code (forecastCode s h) (forecastOf s h)
+
+direct-forecast : (s : State) (h : ℕ) → Works s (result s (Forecast h))
+unfolding result
+direct-forecast s h =
+    rw (forecast-rejection s h) (forecasts-one h (forecastCode s h) (answerValue (forecast s h)) (forecast-answer s h))
+
+forecasts-numbers : (s : State) (h : ℕ) (cells : List ℤ) → forecastsCode s h (length cells) ≡ 0 → take h (forecastCells s h cells) ≡ forecastList s h
+unfolding forecastCellsTo
+forecasts-numbers s h cells z = rw z (take-at (forecastList s h) (drop h cells) h (list-length s h))
+
+direct-forecasts : (s : State) (h : ℕ) (cells : List ℤ) → Works s (result s (Forecasts h cells))
+unfolding result forecastsTo
+direct-forecasts s h cells =
+    rw (outcome-code (forecastsCode s h (length cells)))
+    (forecasts-all h (forecastsCode s h (length cells)) (take h (forecastCells s h cells)) (forecasts-numbers s h cells))
+
+-- ---- in place
+pub cells-after : (s : State) (y : ℤ) → length (s .seasonal) ≡ 48 → length (afterReading s y .seasonal) ≡ 48
+cells-after s y full = cells-kept s (residualOf s y) ∙ full
+
+module _ (s : State) (full : length (s .seasonal) ≡ 48) (ok : check s ≡ 0) (slice : Slice) where
+  d : List ℕ
+  d = sliceOf s slice
+
+  -- the rejection of the call, with that of the direct one
+  abbrev both : (State → ℕ) → ℕ
+  both code = inPlaceCode d then code (decoded d)
+
+  state-is : (code : State → ℕ) → both code ≡ 0 → decoded d ≡ s
+  unfolding d
+  state-is code z = accepted-holds s full ok slice (then-zero (inPlaceCode d) (code (decoded d)) z .0)
+
+  accepts : (code : State → ℕ) → both code ≡ 0 → code s ≡ 0
+  accepts code z = ap code (sym (state-is code z)) ∙ then-zero (inPlaceCode d) (code (decoded d)) z .1
+
+  -- an accepted one rewrites the snapshot
+  state-after : (code : State → ℕ) (after : State → State) → (code s ≡ 0 → (length (after s .seasonal) ≡ 48) × (check (after s) ≡ 0)) → stateIn s slice (cond (eqb (both code) 0) (encoded (after (decoded d))) d) ≡ cond (eqb (both code) 0) (after s) s
+  unfolding d
+  state-after code after f =
+      by-code (λ b. stateIn s slice (cond b (encoded (after (decoded d))) d) ≡ cond b (after s) s) (both code)
+      (λ z. rw (state-is code z) (let p = f (accepts code z) in rewritten-holds (after s) (p .0) (p .1) s slice))
+      (untouched-holds s full ok slice)
+
+  in-place-reading : (y : ℤ) → Works s (result s (InPlaceReading slice y))
+  unfolding d result inPlaceStepCode inPlaceStepBytes
+  in-place-reading y =
+      rw (state-after (λ t. stepCode t y) (λ t. afterReading t y) (λ z. (cells-after s y full, reading-kept s y full z)))
+      (reads y (both (λ t. stepCode t y)) (accepts (λ t. stepCode t y)))
+
+  in-place-missing : Works s (result s (InPlaceMissing slice))
+  unfolding d result inPlaceMissingCode inPlaceMissingBytes
+  in-place-missing =
+      rw (state-after missingCode afterMissing (λ z. (full, missing-kept s z)))
+      (misses (both missingCode) (accepts missingCode))
+
+  in-place-forecast : (h : ℕ) (old : ℤ) → Works s (result s (InPlaceForecast slice h old))
+  unfolding d result inPlaceForecastCode inPlaceForecast
+  in-place-forecast h old =
+      forecasts-one h (both (λ t. forecastCode t h)) (inPlaceForecast d h old)
+      (λ z. rw z (ap (λ (t : State). forecastOf t h) (state-is (λ t. forecastCode t h) z)))
+
+-- ---- every call
+pub works : (s : State) → length (s .seasonal) ≡ 48 → check s ≡ 0 → (k : Call) → Works s (result s k)
+works s full ok (Reading y) = direct-reading s y
+works s full ok Missing = direct-missing s
+works s full ok (Batch ys cells) = direct-batch s ys cells
+works s full ok (Forecast h) = direct-forecast s h
+works s full ok (Forecasts h cells) = direct-forecasts s h cells
+works s full ok (InPlaceReading slice y) = in-place-reading s full ok slice y
+works s full ok (InPlaceMissing slice) = in-place-missing s full ok slice
+works s full ok (InPlaceForecast slice h old) = in-place-forecast s full ok slice h old

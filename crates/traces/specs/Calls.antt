@@ -1,0 +1,86 @@
+-- Document 01, "One step": a list of calls, run by the definitions that the calls' contracts cite.
+-- The paper's words, and the names here:
+--   group          snapshot, the encoding of a state
+--   lent group     in place: a call on a slice of bytes that holds a snapshot
+--   refused        rejected
+--   mark           sentinel, a missing reading in a slice
+--   place          seasonal index
+--   e              residual
+use Prim.Native.Nat.{ℕ}
+use mathlib.Core.Bool.{Bool, cond}
+use mathlib.Core.List.{List, [], _∷_, _++_}
+use lib.Dec.{eqb}
+use lib.IntN.{ℤ}
+use lib.ListN.{length, take, drop}
+use Rattle.state.specs.Rejections.{outcomeCode, answerCode, answerValue}
+use Rattle.state.specs.declared.State.{State}
+use Rattle.ets.specs.Steps.{step, missing}
+use Rattle.ets.specs.Batches.{batch, batchLevels}
+use Rattle.ets.specs.Forecasts.{forecast, forecasts, forecastCells}
+use Rattle.snapshot.specs.Snapshots.{encoded, decoded}
+use Rattle.snapshot.specs.InPlace.{inPlaceStepCode, inPlaceStepBytes, inPlaceMissingCode, inPlaceMissingBytes, inPlaceForecastCode, inPlaceForecast}
+
+-- What a call in place is lent of the memory with the state's snapshot: all of it and the bytes that follow (any of which makes the call a rejected one), or its first
+-- `size` bytes alone (too few make it one).
+pub data Slice : Type 0 where
+  followed : (trailing : List ℕ) → Slice
+  cut : (size : ℕ) → Slice
+
+-- A state is handed in directly, or in place: as the snapshot in a slice. `cells` is what the lent cells hold at entry, `old` the lent number of a forecast.
+pub data Call : Type 0 where
+  Reading : (y : ℤ) → Call
+  Missing : Call
+  Batch : (ys cells : List ℤ) → Call
+  Forecast : (h : ℕ) → Call
+  Forecasts : (h : ℕ) (cells : List ℤ) → Call
+  InPlaceReading : (slice : Slice) (y : ℤ) → Call
+  InPlaceMissing : (slice : Slice) → Call
+  InPlaceForecast : (slice : Slice) (h : ℕ) (old : ℤ) → Call
+
+-- what one who sees no state and no number is told of a call: its readings or horizon and, of its answer, only whether it was accepted or how many readings a batch took
+pub data Event : Type 0 where
+  observed : (y : ℤ) (accepted : Bool) → Event
+  unobserved : (accepted : Bool) → Event
+  series : (ys : List ℤ) (taken : ℕ) → Event
+  horizon : (h : ℕ) (accepted : Bool) → Event
+  horizons : (h : ℕ) (accepted : Bool) → Event
+
+-- what a call does: the state that then stands, what is told of it, and the levels or forecasts that it answered or put in cells
+pub record Result : Type 0 where
+  pub state : State
+  pub event : Event
+  pub numbers : List ℤ
+
+-- of a call with the rejection n, or 0 where it is accepted: it answers its numbers only then
+abbrev pub answered : State → (Bool → Event) → ℕ → List ℤ → Result
+answered s event n numbers = record { state = s; event = event (eqb n 0); numbers = cond (eqb n 0) numbers [] }
+
+-- the bytes of a slice at entry; and the state that stands where they became d, with what was not lent
+abbrev pub sliceOf : State → Slice → List ℕ
+sliceOf s (followed trailing) = encoded s ++ trailing
+sliceOf s (cut size) = take size (encoded s)
+
+abbrev pub stateIn : State → Slice → List ℕ → State
+stateIn s (followed trailing) d = decoded d
+stateIn s (cut size) d = decoded (d ++ drop size (encoded s))
+
+-- a forecast leaves the state that it got
+unfoldable pub result : State → Call → Result
+result s (Reading y) = answered (step s y .state) (observed y) (answerCode (step s y .residual)) []
+result s Missing = answered (missing s .state) unobserved (outcomeCode (missing s .outcome)) []
+result s (Batch ys cells) =
+    let b = batch s ys (length cells) in
+    record { state = b .state; event = series ys (b .taken); numbers = take (b .taken) (batchLevels s ys cells) }
+result s (Forecast h) = answered s (horizon h) (answerCode (forecast s h)) (answerValue (forecast s h) ∷ [])
+result s (Forecasts h cells) = answered s (horizons h) (outcomeCode (forecasts s h (length cells))) (take h (forecastCells s h cells))
+result s (InPlaceReading slice y) =
+    let d = sliceOf s slice in answered (stateIn s slice (inPlaceStepBytes d y)) (observed y) (inPlaceStepCode d y) []
+result s (InPlaceMissing slice) =
+    let d = sliceOf s slice in answered (stateIn s slice (inPlaceMissingBytes d)) unobserved (inPlaceMissingCode d) []
+result s (InPlaceForecast slice h old) =
+    let d = sliceOf s slice in answered s (horizon h) (inPlaceForecastCode d h) (inPlaceForecast d h old ∷ [])
+
+-- the state that stands after a list of calls: each gets the one that stands after the one before
+unfoldable pub after : State → List Call → State
+after s [] = s
+after s (k ∷ ks) = after (result s k .state) ks

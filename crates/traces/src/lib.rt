@@ -1,0 +1,17 @@
+// Lists of calls: document 01, "One step". The vocabulary is in specs/. Each function is a promise: it does nothing, and its contract is a theorem.
+ghost use Rattle.traces.specs.Laws.{CallLaws, InPlaceLaws, SliceLaws};
+
+// A call leaves a state that the next one can take, and answers a number for each cell that it filled and each forecast.
+pub fn call_laws()
+    ensures { λ _. ⌜ CallLaws ⌝ }
+{}
+
+// A call in place is the direct one.
+pub fn in_place_laws()
+    ensures { λ _. ⌜ InPlaceLaws ⌝ }
+{}
+
+// The slice that a call in place leaves is the one that the list hands to the next.
+pub fn slice_laws()
+    ensures { λ _. ⌜ SliceLaws ⌝ }
+{}
