@@ -3,7 +3,7 @@ use mathlib.Core.List.{List, []}
 use Prim.Native.Nat.{ℕ}
 use lib.IntN.{ℤ}
 use Rattle.snapshot.specs.Snapshots.{decoded}
-use Rattle.snapshot.proofs.ByteLaws.{AreBytes}
+use Rattle.snapshot.specs.Bytes.{AreBytes}
 use Rattle.snapshot.specs.InPlace.{inPlaceCode, inPlaceStepBytes, inPlaceForecastCode, inPlaceForecast}
 use Rattle.traces.specs.Calls.{followed, InPlaceReading}
 use Rattle.chain.specs.Chains.{ForecastWithin}
