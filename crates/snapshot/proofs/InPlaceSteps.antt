@@ -11,7 +11,7 @@ use lib.IntN.{ℤ, pos}
 use lib.ListN.{length, getD, set}
 use Rattle.integers.specs.Bounds.{Within}
 use Rattle.integers.proofs.Bounds.{within-zero}
-use Rattle.state.specs.Rejections.{unless, _then_, out-of-place, count-full}
+use Rattle.state.specs.Rejections.{unless, out-of-place, count-full}
 use Rattle.state.specs.Fixed.{maxCount}
 use Rattle.state.specs.Models.{hasSeason}
 use Rattle.state.specs.States.{check, indexOk, countOk}
@@ -19,12 +19,11 @@ use Rattle.state.specs.declared.State.{State}
 use Rattle.state.proofs.Passing.{bounded, no-season, with-season}
 use Rattle.state.proofs.Tests.{both, then-zero, unless-zero}
 use Rattle.ets.specs.Steps.{residualOf, newLevel, newTrend, newSeason, newSeasonal, nextIndex, afterReading, afterMissing, corrected, stepCode, missingCode}
-use Rattle.ets.specs.Forecasts.{seasonAt as seasonAhead, forecastCode, forecastOf}
+use Rattle.ets.specs.Forecasts.{seasonAt as seasonAhead}
 use Rattle.ets.specs.Updates.{numbersOf, updateOf}
 use Rattle.ets.specs.declared.Numbers.{Numbers}
 use Rattle.ets.specs.declared.Update.{Update}
 use Rattle.ets.proofs.UpdateLaws.{update-code, update-is, step-room}
-use Rattle.snapshot.specs.Answers.{accepting}
 use Rattle.snapshot.specs.Bytes.{AreBytes}
 use Rattle.snapshot.specs.Layout.{periodIn, seasonIn, indexIn, countIn, modelBytes}
 use Rattle.snapshot.specs.Snapshots.{openCode, openOffset, cellsAt, decoded, encoded}

@@ -35,14 +35,13 @@ use state::models::model_ok;
 ghost use mathlib.Core.Path.{_≡_};
 ghost use mathlib.Core.Bool.{true, _&&_};
 ghost use Prim.Native.Nat.{_+_, _≤_, _<_};
-ghost use lib.Dec.{eqb};
 ghost use lib.ListN.{length};
 ghost use Rattle.state.specs.Rejections.{unless, _then_, bad-model, bad-period, bad-parameter};
 ghost use Rattle.state.specs.Fixed.{inRange};
 ghost use Rattle.state.specs.Models.{parametersOk};
-ghost use Rattle.state.specs.States.{trendOk, indexOk, countOk};
+ghost use Rattle.state.specs.States.{trendOk};
 ghost use Rattle.snapshot.specs.CommandTable.{isCommand, modelLength, levelLength};
-ghost use Rattle.snapshot.specs.Layout.{levelAt, seasonAt, sizeOf, modelIn, alphaIn, betaIn, gammaIn, phiIn, levelIn, trendIn, placeIn, seasonIn, indexIn, countIn};
+ghost use Rattle.snapshot.specs.Layout.{levelAt, seasonAt, modelIn, alphaIn, betaIn, gammaIn, phiIn, levelIn, trendIn};
 ghost use Rattle.snapshot.specs.Snapshots.{dueCode, modelCode, levelCode, seasonCode, positionCode, scanPosition, scanSeasons, scan};
 
 // What the checks of a stream found: the rejection and the offset of its command, or 0 and the offset of what follows.

@@ -12,6 +12,7 @@ pub const SEASON_LENGTH: usize = 10;
 
 pub const POSITION_LENGTH: usize = 10;
 
+// The length, and whether only a snapshot holds it.
 pub struct Entry(pub usize, pub bool);
 
 // The table's row of a byte; a length of 0 where it begins no command.

@@ -8,7 +8,6 @@ use lib.ListN.{length}
 use Rattle.state.specs.Rejections.{out-of-place}
 use Rattle.snapshot.specs.Snapshots.{openCode, openOffset}
 use Rattle.snapshot.specs.InPlace.{inPlaceCode}
-use Rattle.snapshot.specs.Facts.{Found}
 use Rattle.snapshot.specs.declared.reading.Scanned.{Scanned}
 use Rattle.snapshot.proofs.Accepting.{accepted-room}
 use Rattle.snapshot.proofs.InPlaceSteps.{held}
