@@ -11,7 +11,7 @@ use lib.IntN.{ℤ, pos}
 use lib.ListN.{length, getD, set}
 use Rattle.integers.specs.Bounds.{Within}
 use Rattle.integers.proofs.Bounds.{within-zero}
-use Rattle.state.specs.Rejections.{unless, _then_, out-of-place, count-full}
+use Rattle.state.specs.Rejections.{unless, out-of-place, count-full}
 use Rattle.state.specs.Fixed.{maxCount}
 use Rattle.state.specs.Models.{hasSeason}
 use Rattle.state.specs.States.{check, indexOk, countOk}
@@ -19,19 +19,18 @@ use Rattle.state.specs.declared.State.{State}
 use Rattle.state.proofs.Passing.{bounded, no-season, with-season}
 use Rattle.state.proofs.Tests.{both, then-zero, unless-zero}
 use Rattle.ets.specs.Steps.{termsOf, residualOf, newLevel, newTrend, newSeason, newSeasonal, nextIndex, afterReading, afterMissing, corrected, stepCode, missingCode}
-use Rattle.ets.specs.Forecasts.{seasonAt as seasonAhead, forecastCode, forecastOf}
+use Rattle.ets.specs.Forecasts.{seasonAt as seasonAhead}
 use Rattle.ets.specs.Updates.{numbersOf, corrections, update}
 use Rattle.ets.specs.declared.Numbers.{Numbers}
 use Rattle.ets.specs.declared.Update.{Update}
 use Rattle.ets.proofs.StepLaws.{step-facts}
 use Rattle.ets.proofs.UpdateLaws.{update-code, update-is}
-use Rattle.snapshot.specs.Answers.{accepting}
 use Rattle.snapshot.specs.Bytes.{AreBytes}
 use Rattle.snapshot.specs.Layout.{periodIn, seasonIn, indexIn, countIn, modelBytes}
 use Rattle.snapshot.specs.Snapshots.{openCode, openOffset, cellsAt, decoded, encoded}
 use Rattle.snapshot.specs.InPlace.{inPlaceCode, rejection, bytesAfter, numberAfter}
-use Rattle.snapshot.specs.Facts.{Room, numbersIn, aheadIn, Held, Found, movedOn, seasonPut, stored}
-use Rattle.snapshot.specs.declared.in_place.Checked.{Checked}
+use Rattle.snapshot.specs.Facts.{Room, numbersIn, checkedIn, aheadIn, Held, Found, movedOn, seasonPut, stored}
+use Rattle.snapshot.specs.declared.fields.Checked.{Checked}
 use Rattle.snapshot.proofs.Accepting.{accepted, accepted-room}
 use Rattle.snapshot.proofs.RoundTrip.{length-model, cell-read, cell-none, accepted-passes, length-decoded, whole}
 use Rattle.snapshot.proofs.Patches.{snapshotOf, level-written, season-written, position-written}
@@ -62,18 +61,18 @@ module _ (d : List ℕ) (ok : openCode d ≡ 0) where
       go false e =
           sym (cell-read d (periodIn d) (indexIn d (periodIn d)) (accepted-room d ok .period) (ltb-true (indexIn d (periodIn d)) (periodIn d) (rw e at index-in)))
 
-  numbers-are : numbersIn d (periodIn d) (indexIn d (periodIn d)) ≡ numbersOf (decoded d)
+  numbers-are : numbersIn d ≡ numbersOf (decoded d)
   unfolding decoded
   numbers-are = rw season-due
 
-pub held : (d : List ℕ) → AreBytes d → inPlaceCode d ≡ 0 → (x : Checked) → x .period ≡ periodIn d → x .index ≡ indexIn d (periodIn d) → x .numbers ≡ numbersIn d (periodIn d) (indexIn d (periodIn d)) → Held d x
+pub held : (d : List ℕ) → AreBytes d → inPlaceCode d ≡ 0 → Held d (checkedIn d)
 unfolding decoded
-held d b z x m p n =
+held d b z =
     let o = one-snapshot d z in
     record {
-      period = m;
-      index = p;
-      numbers = n ∙ numbers-are d (o .0);
+      period = refl;
+      index = refl;
+      numbers = numbers-are d (o .0);
       passes = accepted-passes d (o .0);
       whole = whole d b (o .0) (o .1);
       room = accepted-room d (o .0);

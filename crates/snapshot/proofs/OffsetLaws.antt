@@ -1,6 +1,6 @@
 -- The offset of a rejection lies in the stream; rejection 4 tells the stream's length where no command is begun.
 use Prim.Native.Nat.{ℕ, zero, suc, _+_, _-_, _≤_, _<_}
-use mathlib.Core.Path.{_≡_, refl, sym, ap, _∙_}
+use mathlib.Core.Path.{_≡_, refl}
 use mathlib.Core.Bool.{Bool, true, false, _&&_}
 use mathlib.Core.Logic.{_⊎_, inl, inr}
 use mathlib.Core.List.{List}
@@ -15,7 +15,7 @@ use Rattle.state.specs.States.{trendOk, indexOk, countOk}
 use Rattle.snapshot.specs.CommandTable.{commandSize, isCommand}
 use Rattle.snapshot.specs.Layout.{modelAt, levelAt, seasonAt, positionAt, sizeOf, modelIn, periodIn, alphaIn, betaIn, gammaIn, phiIn, levelIn, trendIn, placeIn, seasonIn, indexIn, countIn}
 use Rattle.snapshot.specs.Snapshots.{dueCode, modelCode, levelCode, seasonCode, positionCode, finished, scanPosition, scanSeasons, scan}
-use Rattle.snapshot.specs.Promises.{Offsets, Located}
+use Rattle.snapshot.specs.Promises.{Offsets}
 use Rattle.snapshot.specs.declared.reading.Scanned.{Scanned}
 use Rattle.snapshot.proofs.Accepting.{model, level, season, position}
 
