@@ -7,12 +7,12 @@ use borrow.Author.Tests.{eq-eqb, eqb-true}
 use lib.Dec.{eqb}
 use lib.IntN.{ℤ}
 use lib.ListN.{length}
+use Rattle.state.specs.Rejections.{accepting}
 use Rattle.state.specs.States.{check}
 use Rattle.state.specs.declared.State.{State}
 use Rattle.ets.specs.Steps.{stepCode, missingCode, residualOf, afterReading, afterMissing, step, missing}
 use Rattle.ets.specs.Forecasts.{forecastCode, forecastOf}
 use Rattle.ets.proofs.Kept.{cells-kept, reading-kept, missing-kept}
-use Rattle.snapshot.specs.Answers.{accepting}
 use Rattle.snapshot.specs.Snapshots.{decoded, encoded}
 use Rattle.snapshot.specs.InPlace.{inPlaceCode, rejection, bytesAfter, numberAfter, inPlaceStepCode, inPlaceStepBytes, inPlaceResidual, inPlaceMissingCode, inPlaceMissingBytes, inPlaceForecastCode, inPlaceForecast}
 use Rattle.snapshot.specs.Promises.{StepInPlace, MissingInPlace, ForecastInPlace, InPlaceIsDirect}

@@ -1,14 +1,9 @@
--- What a call gives where it is accepted or rejected, and document 01's number and value of each case of the enum Length.
+-- Document 01's number and value of each case of the enum Length.
 use Prim.Native.Nat.{ℕ}
 use mathlib.Core.Path.{_≡_}
-use mathlib.Core.Bool.{cond}
-use lib.Dec.{eqb}
+use Rattle.state.specs.Rejections.{accepting}
 use Rattle.snapshot.specs.declared.Length.{Length}
 use Rattle.snapshot.specs.declared.Length.the-variants as length-of
-
--- a where the rejection is 0, else what the rejection makes
-abbrev pub accepting : {A : Type 0} → ℕ → A → (ℕ → A) → A
-accepting code a r = cond (eqb code 0) a (r code)
 
 -- n bytes where the rejection is 0, else the rejection
 abbrev pub lengthAnswer : ℕ → ℕ → Length

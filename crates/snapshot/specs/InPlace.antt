@@ -4,11 +4,10 @@ use mathlib.Core.List.{List}
 use lib.Dec.{eqb}
 use lib.IntN.{ℤ}
 use lib.ListN.{length}
-use Rattle.state.specs.Rejections.{unless, _then_, out-of-place}
+use Rattle.state.specs.Rejections.{unless, _then_, out-of-place, accepting}
 use Rattle.state.specs.declared.State.{State}
 use Rattle.ets.specs.Steps.{stepCode, missingCode, residualOf, afterReading, afterMissing}
 use Rattle.ets.specs.Forecasts.{forecastCode, forecastOf}
-use Rattle.snapshot.specs.Answers.{accepting}
 use Rattle.snapshot.specs.Snapshots.{openCode, openOffset, decoded, encoded}
 
 -- the snapshot's own rejections; then any byte after it, a command or not, is 3

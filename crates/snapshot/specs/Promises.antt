@@ -5,13 +5,13 @@ use mathlib.Core.Logic.{_⊎_}
 use mathlib.Core.List.{List, _++_}
 use lib.IntN.{ℤ}
 use lib.ListN.{length, take, drop, getD}
-use Rattle.state.specs.Rejections.{truncated, bad-model}
+use Rattle.state.specs.Rejections.{truncated, bad-model, accepting}
 use Rattle.state.specs.States.{check}
 use Rattle.state.specs.declared.State.{State}
 use Rattle.state.specs.declared.Outcome.the-variants as outcome-of
 use Rattle.ets.specs.Steps.{stepCode, residualOf, missingCode, step, missing}
 use Rattle.ets.specs.Forecasts.{forecastCode, forecastOf}
-use Rattle.snapshot.specs.Answers.{accepting, LengthCases}
+use Rattle.snapshot.specs.Answers.{LengthCases}
 use Rattle.snapshot.specs.Bytes.{AreBytes}
 use Rattle.snapshot.specs.CommandTable.{commandSize}
 use Rattle.snapshot.specs.Layout.{sizeOf}

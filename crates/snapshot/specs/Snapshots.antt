@@ -6,13 +6,13 @@ use lib.Dec.{eqb, ltb, leb}
 use lib.IntN.{ℤ, pos}
 use lib.ListN.{length, drop, getD, set, replicate}
 use lib.Seq.{sets}
-use Rattle.state.specs.Rejections.{unless, _then_, outcome, unknown-command, out-of-place, truncated, bad-model, bad-period, bad-parameter, wrong-index, bad-value, bad-position, short-buffer}
+use Rattle.state.specs.Rejections.{unless, _then_, outcome, unknown-command, out-of-place, truncated, bad-model, bad-period, bad-parameter, wrong-index, bad-value, bad-position, short-buffer, accepting}
 use Rattle.state.specs.Fixed.{inRange}
 use Rattle.state.specs.Models.{validModel, periodOk, parametersOk}
 use Rattle.state.specs.States.{trendOk, indexOk, countOk, check, noState}
 use Rattle.state.specs.declared.State.{State}
 use Rattle.state.specs.declared.Outcome.{Outcome}
-use Rattle.snapshot.specs.Answers.{accepting, lengthAnswer}
+use Rattle.snapshot.specs.Answers.{lengthAnswer}
 use Rattle.snapshot.specs.CommandTable.{commandSize, isCommand}
 use Rattle.snapshot.specs.Layout.{modelAt, levelAt, seasonAt, positionAt, sizeOf, modelIn, periodIn, alphaIn, betaIn, gammaIn, phiIn, levelIn, trendIn, placeIn, seasonIn, indexIn, countIn, modelBytes, levelBytes, seasonsBytes, positionBytes}
 use Rattle.snapshot.specs.declared.Opened.{Opened}
