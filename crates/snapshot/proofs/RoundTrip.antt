@@ -361,7 +361,7 @@ stored d xs h = sets-eq xs d 0 (rw (zero-add (length xs)) h) ∙ ap (λ (n : ℕ
 
 -- what was saved is read as the state, and the rest is what followed it
 pub read-saved : (s : State) (d : List ℕ) → length (s .seasonal) ≡ 48 → save s (length d) ≡ outcome-of.Accepted
-    → (read (savedBytes s d) ≡ record { outcome = outcome-of.Accepted; offset = sizeOf (s .period); state = s }) × (restOf (savedBytes s d) ≡ drop (sizeOf (s .period)) d)
+    → (read (savedBytes s d) ≡ record { outcome = outcome-of.Accepted; state = s }) × (restOf (savedBytes s d) ≡ drop (sizeOf (s .period)) d)
 unfolding save saveCode savedBytes read restOf
 read-saved s d l e =
     let z = outcome-accepted (saveCode s (length d)) e in
@@ -370,8 +370,8 @@ read-saved s d l e =
     let n = length-encoded s in
     let w = stored d (encoded s) (rw n h) in
     let r = read-back s (drop (length (encoded s)) d) l (c .0) in (
-      rw (z, w, r .0, r .1, r .2, n),
-      rw (z, w, r .0, r .1) (drop-at (encoded s) (drop (length (encoded s)) d) (length (encoded s)) refl ∙ rw n),
+      rw (z, w, r .0, r .2),
+      rw (z, w, r .1) (drop-at (encoded s) (drop (length (encoded s)) d) (length (encoded s)) refl ∙ rw n),
     )
 
 -- what was read is saved as the same bytes

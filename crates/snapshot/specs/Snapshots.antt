@@ -9,7 +9,7 @@ use lib.Seq.{sets}
 use Rattle.state.specs.Rejections.{unless, _then_, outcome, unknown-command, out-of-place, truncated, bad-model, bad-period, bad-parameter, wrong-index, bad-value, bad-position, short-buffer}
 use Rattle.state.specs.Fixed.{inRange}
 use Rattle.state.specs.Models.{trendOf, seasonOf, validModel, periodOk, parametersOk}
-use Rattle.state.specs.States.{trendOk, indexOk, countOk, check}
+use Rattle.state.specs.States.{trendOk, indexOk, countOk, check, noState}
 use Rattle.state.specs.declared.State.{State}
 use Rattle.state.specs.declared.Outcome.{Outcome}
 use Rattle.snapshot.specs.Bytes.{unsignedAt, signedAt, toBytes, signedBytes}
@@ -19,10 +19,31 @@ use Rattle.snapshot.specs.declared.Length.the-variants as length-of
 
 -- ---- reading
 
+-- the bytes of each command with its operands; 0: the byte begins none
+unfoldable pub commandLength : ℕ → ℕ
+commandLength b =
+    cond (eqb b 0x10) 19
+    (cond (eqb b 0x11) 17
+    (cond (eqb b 0x12) 10
+    (cond (eqb b 0x13) 10
+    (cond (eqb b 0x20) 5
+    (cond (eqb b 0x21) 1
+    (cond (eqb b 0x30) 3
+    (cond (eqb b 0x31) 7
+    (cond (eqb b 0x40) 1 0))))))))
+
+-- the commands that only a snapshot holds
+abbrev pub onlyInSnapshot : ℕ → Bool
+onlyInSnapshot b = eqb b 0x11 || eqb b 0x12 || eqb b 0x13
+
 -- the first byte of a command
 unfoldable pub isCommand : ℕ → Bool
 isCommand b =
     eqb b 0x10 || eqb b 0x11 || eqb b 0x12 || eqb b 0x13 || eqb b 0x20 || eqb b 0x21 || eqb b 0x30 || eqb b 0x31 || eqb b 0x40
+
+-- the call: the bytes of a command, or that the byte begins none
+unfoldable pub lengthOfCommand : ℕ → Length
+lengthOfCommand b = cond (isCommand b) (length-of.Bytes (commandLength b)) (length-of.Rejected unknown-command)
 
 -- what rejects the command that is due at an offset, with its first byte and its length, before its operands are looked at; or 0
 unfoldable pub dueCode : List ℕ → ℕ → ℕ → ℕ → ℕ
@@ -105,35 +126,17 @@ decoded s =
       count = unsignedAt s (38 + 10 * getD s 2 0) 8;
     }
 
--- no state: what stands in the place of one after a rejection
-unfoldable pub noState : State
-noState =
-    record {
-      model = 0;
-      period = 0;
-      alpha = 0;
-      beta = 0;
-      gamma = 0;
-      phi = 0;
-      level = pos 0;
-      trend = pos 0;
-      seasonal = replicate 48 (pos 0);
-      index = 0;
-      count = 0;
-    }
-
--- the call: the state and the bytes it took, or the rejection and the offset of its command
+-- the call: the state, or the rejection
 unfoldable pub read : List ℕ → Opened
 read s =
     record {
       outcome = outcome (openCode s);
-      offset = openOffset s;
       state = cond (eqb (openCode s) 0) (decoded s) noState;
     }
 
--- the rest of the caller's bytes after an accepted snapshot; after a rejection all of them
+-- the rest of the caller's bytes: after an accepted snapshot what follows it, after a rejection the part that begins with the rejected command
 unfoldable pub restOf : List ℕ → List ℕ
-restOf s = cond (eqb (openCode s) 0) (drop (openOffset s) s) s
+restOf s = drop (openOffset s) s
 
 -- ---- saving
 

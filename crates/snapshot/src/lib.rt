@@ -7,7 +7,9 @@ mod saving;
 use bytes::read_i64;
 use bytes::read_le;
 use bytes::read_u32;
+pub use reading::command_length;
 pub use reading::is_command;
+pub use reading::only_in_snapshot;
 use reading::read_cells;
 use reading::scan;
 use saving::write_level;
@@ -18,15 +20,15 @@ use state::Outcome;
 use state::SHORT_BUFFER;
 use state::State;
 use state::checks::check;
+use state::no_state;
 ghost use mathlib.Core.Path.{_≡_};
 ghost use Prim.Native.Nat.{_<_};
-ghost use lib.ListN.{length};
-ghost use Rattle.snapshot.specs.Snapshots.{openCode, decoded, noState, read, restOf, sizeOf, bytesNeeded, save, savedBytes};
+ghost use lib.ListN.{length, drop};
+ghost use Rattle.snapshot.specs.Snapshots.{openCode, decoded, read, restOf, sizeOf, bytesNeeded, save, savedBytes};
 
-// What reading a snapshot gives: the state and the bytes it took, or the rejection and the offset of its command.
+// What reading a snapshot gives: the state, or the rejection.
 pub struct Opened {
     pub outcome: Outcome,
-    pub offset: usize,
     pub state: State,
 }
 
@@ -96,39 +98,15 @@ fn snapshot_length(m: usize) -> usize
     SNAPSHOT_LENGTH[m]
 }
 
-// A rejected snapshot gives no state.
-fn rejected(code: u8, offset: usize) -> Opened
-    ensures { λ r. ⌜ r ≡ record { outcome = Outcome.Rejected code; offset = offset; state = noState } ⌝ }
-{
-    Opened {
-        outcome: Outcome::Rejected(code),
-        offset,
-        state: State {
-            model: 0,
-            period: 0,
-            alpha: 0,
-            beta: 0,
-            gamma: 0,
-            phi: 0,
-            level: 0,
-            trend: 0,
-            seasonal: [0; 48],
-            index: 0,
-            count: 0,
-        },
-    }
-}
-
 // An accepted one gives the state that it holds.
-fn accepted(s: &[u8], offset: usize) -> Opened
+fn accepted(s: &[u8]) -> Opened
     requires { ⌜ openCode (now s) ≡ 0 ⌝ }
-    ensures { λ r. ⌜ r ≡ record { outcome = Outcome.Accepted; offset = offset; state = decoded (now (s .entry)) } ⌝ }
+    ensures { λ r. ⌜ r ≡ record { outcome = Outcome.Accepted; state = decoded (now (s .entry)) } ⌝ }
 {
     let m = s[2] as usize;
     let at = 10 * m;
     let mut opened = Opened {
         outcome: Outcome::Accepted,
-        offset,
         state: State {
             model: s[1],
             period: s[2],
@@ -154,23 +132,33 @@ pub fn read(stream: &[u8]) -> Opened
     let found = scan(stream);
     let code = found.code;
     if code == 0 {
-        accepted(stream, found.offset)
+        accepted(stream)
     } else {
-        rejected(code, found.offset)
+        Opened {
+            outcome: Outcome::Rejected(code),
+            state: no_state(),
+        }
     }
 }
 
-// The rest of the caller's bytes after the snapshot at their front; all of them where it is rejected.
-pub fn rest(stream: &[u8]) -> &[u8]
-    ensures { λ r. ⌜ now r ≡ restOf (now (stream .entry)) ⌝ }
+fn after(stream: &[u8], offset: usize) -> &[u8]
+    ensures { λ r. ⌜ now r ≡ drop offset (now (stream .entry)) ⌝ }
+{
+    let end = stream.len();
+    if end < offset {
+        return &stream[end..];
+    }
+    &stream[offset..]
+}
+
+// The rest of the caller's bytes: after an accepted snapshot what follows it, after a rejection the part that begins with the rejected command.
+pub fn rest<'a>(stream: &'a [u8], code: &mut u8) -> &'a [u8]
+    ensures { λ r. ⌜ (now r ≡ restOf (now (stream .entry))) × (now (code .exit) ≡ openCode (now (stream .entry))) ⌝ }
 {
     let found = scan(stream);
-    let code = found.code;
-    if code != 0 {
-        return stream;
-    }
     let offset = found.offset;
-    &stream[offset..]
+    *code = found.code;
+    after(stream, offset)
 }
 
 // The bytes that saving a state needs, told before anything is written.

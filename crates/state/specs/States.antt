@@ -4,7 +4,7 @@ use mathlib.Core.Bool.{Bool, true, cond, _&&_}
 use mathlib.Core.List.{List}
 use lib.Dec.{eqb, ltb, leb}
 use lib.IntN.{ℤ, pos}
-use lib.ListN.{getD}
+use lib.ListN.{getD, replicate}
 use Rattle.state.specs.Rejections.{unless, _then_, bad-model, bad-period, bad-parameter, bad-value, bad-position}
 use Rattle.state.specs.Fixed.{inRange, isZero, maxCount}
 use Rattle.state.specs.Models.{hasTrend, validModel, periodOk, parametersOk}
@@ -43,3 +43,20 @@ check s =
     then unless (parametersOk (s .model) (s .alpha) (s .beta) (s .gamma) (s .phi)) bad-parameter
     then unless (inRange (s .level) && trendOk (s .model) (s .trend) && seasonalOk (s .period) (s .seasonal)) bad-value
     then unless (indexOk (s .period) (s .index) && countOk (s .count)) bad-position
+
+-- no state: what stands in the place of one after a rejection. Every check refuses it, by its model byte
+unfoldable pub noState : State
+noState =
+    record {
+      model = 255;
+      period = 0;
+      alpha = 0;
+      beta = 0;
+      gamma = 0;
+      phi = 0;
+      level = pos 0;
+      trend = pos 0;
+      seasonal = replicate 48 (pos 0);
+      index = 0;
+      count = 0;
+    }

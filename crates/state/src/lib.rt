@@ -2,6 +2,9 @@
 pub mod checks;
 pub mod models;
 
+ghost use mathlib.Core.Path.{_≡_};
+ghost use Rattle.state.specs.States.{noState};
+
 // The numbers of document 01's refusals.
 pub const INPUT_TOO_LONG: u8 = 1;
 
@@ -64,4 +67,23 @@ pub enum Outcome {
 pub enum Answer {
     Accepted(i64),
     Rejected(u8),
+}
+
+// What stands in the place of a state after a rejection; every check refuses it.
+pub fn no_state() -> State
+    ensures { λ r. ⌜ r ≡ noState ⌝ }
+{
+    State {
+        model: 255,
+        period: 0,
+        alpha: 0,
+        beta: 0,
+        gamma: 0,
+        phi: 0,
+        level: 0,
+        trend: 0,
+        seasonal: [0; 48],
+        index: 0,
+        count: 0,
+    }
 }

@@ -19,11 +19,11 @@ cast-m c = omega (arith, accepted-room _ (c .before .before .pre))
 mul-at : tie.Need-mul-at
 mul-at c = omega (arith, accepted-room _ (c .before .before .pre))
 
-shared-slice-read-t7 : tie.Need-shared-slice-read-t7
-shared-slice-read-t7 c = omega (arith, accepted-room _ (c .before .before .before .pre))
+shared-slice-read-t6 : tie.Need-shared-slice-read-t6
+shared-slice-read-t6 c = omega (arith, accepted-room _ (c .before .before .before .pre))
 
-shared-slice-read-t11 : tie.Need-shared-slice-read-t11
-shared-slice-read-t11 c = omega (arith, accepted-room _ (c .before .before .before .before .pre))
+shared-slice-read-t10 : tie.Need-shared-slice-read-t10
+shared-slice-read-t10 c = omega (arith, accepted-room _ (c .before .before .before .before .pre))
 
 read-u32-requires : tie.Need-read-u32-requires
 read-u32-requires c κs = omega (arith, accepted-room _ (c .before .before .before .before .pre))
@@ -43,11 +43,11 @@ read-i64-requires c κs = omega (arith, accepted-room _ (c .before .before .befo
 read-i64-requires-2 : tie.Need-read-i64-requires-2
 read-i64-requires-2 c κs = omega (arith, accepted-room _ (c .before .before .before .before .before .before .before .before .before .pre))
 
-add-t19 : tie.Need-add-t19
-add-t19 c = omega (arith, accepted-room _ (c .before .before .before .before .before .before .before .before .before .before .pre))
+add-t18 : tie.Need-add-t18
+add-t18 c = omega (arith, accepted-room _ (c .before .before .before .before .before .before .before .before .before .before .pre))
 
-shared-slice-read-t21 : tie.Need-shared-slice-read-t21
-shared-slice-read-t21 c = omega (arith, accepted-room _ (c .before .before .before .before .before .before .before .before .before .before .before .pre))
+shared-slice-read-t20 : tie.Need-shared-slice-read-t20
+shared-slice-read-t20 c = omega (arith, accepted-room _ (c .before .before .before .before .before .before .before .before .before .before .before .pre))
 
 add-read-le : tie.Need-add-read-le
 add-read-le c = omega (arith, accepted-room _ (c .before .before .before .before .before .before .before .before .before .before .before .pre))
@@ -72,16 +72,16 @@ accepted-spec =
     shared-slice-read-m
     cast-m
     mul-at
-    shared-slice-read-t7
-    shared-slice-read-t11
+    shared-slice-read-t6
+    shared-slice-read-t10
     read-u32-requires
     read-u32-requires-2
     read-u32-requires-3
     read-u32-requires-4
     read-i64-requires
     read-i64-requires-2
-    add-t19
-    shared-slice-read-t21
+    add-t18
+    shared-slice-read-t20
     add-read-le
     read-le-requires
     read-cells-requires

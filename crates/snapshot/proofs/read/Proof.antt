@@ -12,17 +12,17 @@ scan-requires c κs = search needs
 accepted-requires : tie.Need-accepted-requires
 accepted-requires c κs = sym (c .before .scan .ensures .0) ∙ c .if1 .taken
 
-rejected-requires : tie.Need-rejected-requires
-rejected-requires c κs = search needs
+no-state-requires : tie.Need-no-state-requires
+no-state-requires c κs = search needs
 
 returns : tie.Need-returns
 unfolding read
-returns c = rw (← (c .before .before .scan .ensures .0), ← (c .before .before .scan .ensures .1), eq-eqb _ _ (c .before .if1 .taken)) (c .accepted .ensures)
+returns c = rw (← (c .before .before .scan .ensures .0), eq-eqb _ _ (c .before .if1 .taken)) (c .accepted .ensures)
 
 returns-2 : tie.Need-returns-2
 unfolding read
-returns-2 c = rw (← (c .before .before .scan .ensures .0), ← (c .before .before .scan .ensures .1), ne-eqb _ _ (c .before .if1 .left)) (c .rejected .ensures)
+returns-2 c = rw (← (c .before .before .scan .ensures .0), ne-eqb _ _ (c .before .if1 .left), ← (c .no-state .ensures))
 
 pub read-spec : {M : Type 1} → statement M
 read-spec =
-    tie.close (tie.spec scan-requires accepted-requires rejected-requires returns returns-2)
+    tie.close (tie.spec scan-requires accepted-requires no-state-requires returns returns-2)

@@ -1,0 +1,12 @@
+-- `state::no_state` meets its contract.
+use mathlib.Core.Path.{refl}
+use Rattle.state.specs.States.{noState}
+use Rattle.state.proofs.no_state.Statement.{statement}
+use Rattle.state.proofs.no_state.Tie as tie
+
+returns : tie.Need-returns
+unfolding noState
+returns c = refl
+
+pub no-state-spec : {M : Type 1} → statement M
+no-state-spec = tie.close (tie.spec returns)
