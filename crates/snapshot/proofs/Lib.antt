@@ -2,6 +2,6 @@ pub mod ByteLaws
 pub mod Accepting
 pub mod RoundTrip
 pub mod Signed
-pub mod Table
+pub mod Tabulated
 pub mod Patches
 pub mod FieldLaws

@@ -19,31 +19,10 @@ use Rattle.snapshot.specs.declared.Length.the-variants as length-of
 
 -- ---- reading
 
--- the bytes of each command with its operands; 0: the byte begins none
-unfoldable pub commandLength : ℕ → ℕ
-commandLength b =
-    cond (eqb b 0x10) 19
-    (cond (eqb b 0x11) 17
-    (cond (eqb b 0x12) 10
-    (cond (eqb b 0x13) 10
-    (cond (eqb b 0x20) 5
-    (cond (eqb b 0x21) 1
-    (cond (eqb b 0x30) 3
-    (cond (eqb b 0x31) 7
-    (cond (eqb b 0x40) 1 0))))))))
-
--- the commands that only a snapshot holds
-abbrev pub onlyInSnapshot : ℕ → Bool
-onlyInSnapshot b = eqb b 0x11 || eqb b 0x12 || eqb b 0x13
-
 -- the first byte of a command
 unfoldable pub isCommand : ℕ → Bool
 isCommand b =
     eqb b 0x10 || eqb b 0x11 || eqb b 0x12 || eqb b 0x13 || eqb b 0x20 || eqb b 0x21 || eqb b 0x30 || eqb b 0x31 || eqb b 0x40
-
--- the call: the bytes of a command, or that the byte begins none
-unfoldable pub lengthOfCommand : ℕ → Length
-lengthOfCommand b = cond (isCommand b) (length-of.Bytes (commandLength b)) (length-of.Rejected unknown-command)
 
 -- what rejects the command that is due at an offset, with its first byte and its length, before its operands are looked at; or 0
 unfoldable pub dueCode : List ℕ → ℕ → ℕ → ℕ → ℕ

@@ -3,13 +3,14 @@ mod bytes;
 pub mod fields;
 mod reading;
 mod saving;
+mod table;
 
 use bytes::read_i64;
 use bytes::read_le;
 use bytes::read_u32;
-pub use reading::command_length;
-pub use reading::is_command;
-pub use reading::only_in_snapshot;
+pub use table::command_length;
+pub use table::is_command;
+pub use table::only_in_snapshot;
 use reading::read_cells;
 use reading::scan;
 use saving::write_level;

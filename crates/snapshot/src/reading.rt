@@ -1,5 +1,4 @@
 // Reading the commands of a snapshot, each finished before the next is looked at.
-use super::Length;
 use super::bytes::read_i64;
 use super::bytes::read_le;
 use super::bytes::read_u32;
@@ -25,7 +24,7 @@ ghost use Prim.Native.Nat.{_+_, _*_, _≤_, _<_};
 ghost use lib.IntN.{pos};
 ghost use lib.ListN.{length, replicate};
 ghost use Rattle.state.specs.Rejections.{unless, _then_, unknown-command, out-of-place, bad-model, bad-period, bad-parameter};
-ghost use Rattle.snapshot.specs.Snapshots.{commandLength, onlyInSnapshot, lengthOfCommand, isCommand, dueCode, modelCode, levelCode, seasonCode, seasonsCode, seasonsRead, positionCode, openCode, openOffset, cellsAt};
+ghost use Rattle.snapshot.specs.Snapshots.{isCommand, dueCode, modelCode, levelCode, seasonCode, seasonsCode, seasonsRead, positionCode, openCode, openOffset, cellsAt};
 
 // What the checks of a stream found: the rejection or 0, and an offset.
 pub struct Scanned {
@@ -45,55 +44,6 @@ pub fn is_command(b: u8) -> bool
         | (b == 0x30)
         | (b == 0x31)
         | (b == 0x40)
-}
-
-// The bytes of a command with its operands, 0 where the byte begins none.
-fn bytes_of(b: u8) -> usize
-    ensures { λ r. ⌜ r ≡ commandLength b ⌝ }
-{
-    if b == 0x10 {
-        return 19;
-    }
-    if b == 0x11 {
-        return 17;
-    }
-    if b == 0x12 {
-        return 10;
-    }
-    if b == 0x13 {
-        return 10;
-    }
-    if b == 0x20 {
-        return 5;
-    }
-    if b == 0x21 {
-        return 1;
-    }
-    if b == 0x30 {
-        return 3;
-    }
-    if b == 0x31 {
-        return 7;
-    }
-    if b == 0x40 { 1 } else { 0 }
-}
-
-// The bytes of a command with its operands, or that the byte begins none.
-pub fn command_length(b: u8) -> Length
-    ensures { λ r. ⌜ r ≡ lengthOfCommand b ⌝ }
-{
-    let n = bytes_of(b);
-    if is_command(b) {
-        return Length::Bytes(n);
-    }
-    Length::Rejected(UNKNOWN_COMMAND)
-}
-
-// The commands that only a snapshot holds.
-pub fn only_in_snapshot(b: u8) -> bool
-    ensures { λ r. ⌜ r ≡ onlyInSnapshot b ⌝ }
-{
-    (b == 0x11) | (b == 0x12) | (b == 0x13)
 }
 
 // A check: 0 where the test holds, else its rejection.

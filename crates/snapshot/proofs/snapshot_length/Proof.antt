@@ -1,6 +1,6 @@
 -- `snapshot::snapshot_length` meets its contract: the whole table is computed from its rule and compared.
 use Rattle.snapshot.specs.Snapshots.{sizeOf}
-use Rattle.snapshot.proofs.Table.{at}
+use Rattle.snapshot.proofs.Tabulated.{at}
 use borrow.Author.Needs.{needs}
 use Rattle.snapshot.proofs.snapshot_length.Statement.{statement}
 use Rattle.snapshot.proofs.snapshot_length.Tie as tie

@@ -1,0 +1,63 @@
+-- `snapshot::table::entry_of` meets its contract: each arm is a row of the table.
+use mathlib.Core.Path.{refl}
+use borrow.Author.Tests.{ne-eqb}
+use Rattle.snapshot.specs.CommandTable.{commandSize, onlyInSnapshot}
+use Rattle.snapshot.proofs.table.entry_of.Statement.{statement}
+use Rattle.snapshot.proofs.table.entry_of.Tie as tie
+
+returns : tie.Need-returns
+unfolding commandSize onlyInSnapshot
+returns c = rw (c .match .keys1) (refl, refl)
+
+returns-2 : tie.Need-returns-2
+unfolding commandSize onlyInSnapshot
+returns-2 c = rw (c .match .keys2) (refl, refl)
+
+returns-3 : tie.Need-returns-3
+unfolding commandSize onlyInSnapshot
+returns-3 c = rw (c .match .keys3) (refl, refl)
+
+returns-4 : tie.Need-returns-4
+unfolding commandSize onlyInSnapshot
+returns-4 c = rw (c .match .keys4) (refl, refl)
+
+returns-5 : tie.Need-returns-5
+unfolding commandSize onlyInSnapshot
+returns-5 c = rw (c .match .keys5) (refl, refl)
+
+returns-6 : tie.Need-returns-6
+unfolding commandSize onlyInSnapshot
+returns-6 c = rw (c .match .keys6) (refl, refl)
+
+returns-7 : tie.Need-returns-7
+unfolding commandSize onlyInSnapshot
+returns-7 c = rw (c .match .keys7) (refl, refl)
+
+returns-8 : tie.Need-returns-8
+unfolding commandSize onlyInSnapshot
+returns-8 c = rw (c .match .keys8) (refl, refl)
+
+returns-9 : tie.Need-returns-9
+unfolding commandSize onlyInSnapshot
+returns-9 c = rw (c .match .keys9) (refl, refl)
+
+returns-10 : tie.Need-returns-10
+unfolding commandSize onlyInSnapshot
+returns-10 c = 
+    let r = c .match .rest in
+    rw (ne-eqb _ _ (r .0 .0 .0 .0 .0 .0 .0 .0 .1), ne-eqb _ _ (r .0 .0 .0 .0 .0 .0 .0 .1), ne-eqb _ _ (r .0 .0 .0 .0 .0 .0 .1), ne-eqb _ _ (r .0 .0 .0 .0 .0 .1), ne-eqb _ _ (r .0 .0 .0 .0 .1), ne-eqb _ _ (r .0 .0 .0 .1), ne-eqb _ _ (r .0 .0 .1), ne-eqb _ _ (r .0 .1), ne-eqb _ _ (r .1)) (refl, refl)
+
+pub entry-of-spec : {M : Type 1} → statement M
+entry-of-spec =
+    tie.close
+    (tie.spec
+    returns
+    returns-2
+    returns-3
+    returns-4
+    returns-5
+    returns-6
+    returns-7
+    returns-8
+    returns-9
+    returns-10)

@@ -1,0 +1,15 @@
+-- `snapshot::table::is_command` meets its contract.
+use Rattle.snapshot.specs.CommandTable.{isCommand}
+use borrow.Author.Needs.{needs}
+use Rattle.snapshot.proofs.table.is_command.Statement.{statement}
+use Rattle.snapshot.proofs.table.is_command.Tie as tie
+
+command-size-requires : tie.Need-command-size-requires
+command-size-requires c κs = search needs
+
+returns : tie.Need-returns
+unfolding isCommand
+returns c = rw (← (c .command-size .ensures))
+
+pub is-command-spec : {M : Type 1} → statement M
+is-command-spec = tie.close (tie.spec command-size-requires returns)

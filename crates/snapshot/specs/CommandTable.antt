@@ -1,0 +1,68 @@
+-- Document 01, "Commands": each command's first byte, its length with its operands, and whether only a snapshot (the paper's group) holds it.
+use Prim.Native.Nat.{ℕ}
+use mathlib.Core.Bool.{Bool, true, false, cond, not}
+use mathlib.Core.List.{List, [], _∷_}
+use lib.Dec.{eqb}
+use Rattle.state.specs.Rejections.{unless, unknown-command}
+use Rattle.snapshot.specs.declared.Length.{Length}
+use Rattle.snapshot.specs.Answers.{lengthAnswer}
+
+-- model byte, m byte, A, B, G, F of 32 bits
+abbrev pub modelLength : ℕ
+modelLength = 19
+
+-- l, b of 64 bits
+abbrev pub levelLength : ℕ
+levelLength = 17
+
+-- place byte, value of 64 bits
+abbrev pub seasonLength : ℕ
+seasonLength = 10
+
+-- p byte, count of 64 bits
+abbrev pub positionLength : ℕ
+positionLength = 10
+
+pub record Command : Type 0 where
+  pub first : ℕ
+  pub size : ℕ
+  pub inner : Bool
+
+abbrev pub command : ℕ → ℕ → Bool → Command
+command first size inner = record { first = first; size = size; inner = inner }
+
+abbrev pub commands : List Command
+commands =
+    command 0x10 modelLength false
+    ∷ command 0x11 levelLength true
+    ∷ command 0x12 seasonLength true
+    ∷ command 0x13 positionLength true
+    ∷ command 0x20 5 false
+    ∷ command 0x21 1 false
+    ∷ command 0x30 3 false
+    ∷ command 0x31 7 false
+    ∷ command 0x40 1 false
+    ∷ []
+
+-- the length of the command that a byte begins, 0 where it begins none
+abbrev pub sizeIn : List Command → ℕ → ℕ
+sizeIn [] b = 0
+sizeIn (c ∷ cs) b = cond (eqb b (c .first)) (c .size) (sizeIn cs b)
+
+unfoldable pub commandSize : ℕ → ℕ
+commandSize b = sizeIn commands b
+
+unfoldable pub isCommand : ℕ → Bool
+isCommand b = not (eqb (commandSize b) 0)
+
+-- 11, 12 and 13
+abbrev pub innerIn : List Command → ℕ → Bool
+innerIn [] b = false
+innerIn (c ∷ cs) b = cond (eqb b (c .first)) (c .inner) (innerIn cs b)
+
+unfoldable pub onlyInSnapshot : ℕ → Bool
+onlyInSnapshot b = innerIn commands b
+
+-- the call: a command's length, or 2
+unfoldable pub commandLength : ℕ → Length
+commandLength b = lengthAnswer (unless (isCommand b) unknown-command) (commandSize b)
