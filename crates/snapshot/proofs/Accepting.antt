@@ -1,188 +1,178 @@
 -- What an accepted snapshot has, command for command, and that what has it is accepted.
-use Prim.Native.Nat.{ℕ, zero, suc, _+_, _-_, _*_, _≤_, _<_}
-use mathlib.Core.Path.{_≡_, refl, sym, subst}
-use mathlib.Core.Bool.{true, _&&_}
-use mathlib.Core.Logic.{⊎-elim}
+use Prim.Native.Nat.{ℕ, zero, suc, _+_, _-_, _≤_, _<_}
+use mathlib.Core.Path.{_≡_, refl, sym, ap, _∙_}
+use mathlib.Core.Bool.{true, false, cond, _&&_}
+use mathlib.Core.Logic.{_⊎_, inl, inr, ⊎-elim}
 use mathlib.Core.List.{List}
-use native.Mathlib.Nat.{le-of-suc-le-suc, eq-or-lt-of-le, not-suc-le-zero}
-use native.Mathlib.Numerals.{add-one}
+use native.Mathlib.Nat.{add-suc, add-zero, le-of-suc-le-suc, not-suc-le-zero}
+use native.Mathlib.Decide.{decLe}
 use native.Mathlib.Omega.{arith}
-use borrow.Author.Tests.{ltb-true, leb-true, eqb-true, lt-ltb, le-leb, eq-eqb, ne-eqb}
-use lib.Dec.{eqb, ltb}
+use borrow.Author.Tests.{ltb-true, leb-true, eqb-true, lt-ltb, le-ltb, le-leb, lt-leb, eq-eqb, ne-eqb}
+use lib.Dec.{eqb, ltb, leb, eqb·suc-zero}
 use lib.ListN.{length, getD}
-use Rattle.state.specs.Rejections.{unless, unknown-command, out-of-place, truncated}
+use Rattle.state.specs.Rejections.{unless, _then_, unknown-command, out-of-place, truncated}
 use Rattle.state.specs.Fixed.{inRange}
 use Rattle.state.specs.Models.{hasSeason, validModel, periodOk, parametersOk}
 use Rattle.state.specs.States.{trendOk, indexOk, countOk}
 use Rattle.state.proofs.Passing.{period-le}
-use Rattle.state.proofs.Tests.{unless-zero, then-zero}
-use Rattle.snapshot.specs.Bytes.{unsignedAt, signedAt}
-use Rattle.snapshot.specs.Snapshots.{isCommand, dueCode, modelCode, levelCode, seasonCode, seasonsCode, seasonsRead, positionCode, openCode, openOffset, sizeOf}
+use Rattle.state.proofs.Tests.{both, unless-zero, then-zero}
+use Rattle.snapshot.specs.CommandTable.{commandSize, isCommand, modelLength, levelLength, seasonLength, positionLength}
+use Rattle.snapshot.specs.Layout.{modelAt, levelAt, seasonAt, positionAt, sizeOf, modelIn, periodIn, alphaIn, betaIn, gammaIn, phiIn, levelIn, trendIn, placeIn, seasonIn, indexIn, countIn}
+use Rattle.snapshot.specs.Snapshots.{dueCode, modelCode, levelCode, seasonCode, positionCode, finished, scanPosition, scanSeasons, scan, openCode, openOffset}
+use Rattle.snapshot.specs.Facts.{Room}
+use Rattle.snapshot.specs.declared.reading.Scanned.{Scanned}
 
 -- the command that is due at an offset stands there, whole
 pub record Due (s : List ℕ) (at first size : ℕ) : Type 0 where
   pub byte : getD s at 0 ≡ first
   pub room : at + size ≤ length s
 
-pub due : (s : List ℕ) (at first size : ℕ) → dueCode s at first size ≡ 0 → Due s at first size
+pub due : (s : List ℕ) (at first : ℕ) → dueCode s at first ≡ 0 → Due s at first (commandSize first)
 unfolding dueCode
-due s at first size h =
+due s at first h =
     let c = then-zero (unless (ltb at (length s)) truncated) _ h in
     let d = then-zero (unless (isCommand (getD s at 0)) unknown-command) _ (c .1) in
     let e = then-zero (unless (eqb (getD s at 0) first) out-of-place) _ (d .1) in
     let l = ltb-true at (length s) (unless-zero _ 3 (c .0)) in
-    let w = leb-true size (length s - at) (unless-zero _ 3 (e .1)) in
+    let w = leb-true (commandSize first) (length s - at) (unless-zero _ 3 (e .1)) in
     record { byte = eqb-true (getD s at 0) first (unless-zero _ 2 (e .0)); room = omega arith }
 
-is-due : {s : List ℕ} {at first size : ℕ} → isCommand first ≡ true → 0 < size → Due s at first size → dueCode s at first size ≡ 0
+is-due : {s : List ℕ} {at first : ℕ} → isCommand first ≡ true → 0 < commandSize first → Due s at first (commandSize first) → dueCode s at first ≡ 0
 unfolding dueCode
-is-due {s} {at} {first} {size} i p d =
+is-due {s} {at} {first} i p d =
     let r = d .room in
-    rw (lt-ltb at (length s) (omega arith), d .byte, i, eq-eqb first first refl, le-leb size (length s - at) (omega arith))
+    rw (lt-ltb at (length s) (omega arith), d .byte, i, eq-eqb first first refl, le-leb (commandSize first) (length s - at) (omega arith))
 
 -- ---- the command 10
 pub record Model (s : List ℕ) : Type 0 where
-  pub due : Due s 0 0x10 19
-  pub valid : validModel (getD s 1 0) ≡ true
-  pub period : periodOk (getD s 1 0) (getD s 2 0) ≡ true
-  pub parameters : parametersOk (getD s 1 0) (unsignedAt s 3 4) (unsignedAt s 7 4) (unsignedAt s 11 4) (unsignedAt s 15 4) ≡ true
+  pub due : Due s modelAt 0x10 modelLength
+  pub valid : validModel (modelIn s) ≡ true
+  pub period : periodOk (modelIn s) (periodIn s) ≡ true
+  pub parameters : parametersOk (modelIn s) (alphaIn s) (betaIn s) (gammaIn s) (phiIn s) ≡ true
 
 pub model : (s : List ℕ) → modelCode s ≡ 0 → Model s
-unfolding modelCode
+unfolding modelCode commandSize
 model s h =
     let c = then-zero _ _ h in
     let d = then-zero _ _ (c .1) in
     let e = then-zero _ _ (d .1) in
-    record { due = due s 0 0x10 19 (c .0); valid = unless-zero _ 4 (d .0); period = unless-zero _ 5 (e .0); parameters = unless-zero _ 6 (e .1) }
+    record { due = due s modelAt 0x10 (c .0); valid = unless-zero _ 4 (d .0); period = unless-zero _ 5 (e .0); parameters = unless-zero _ 6 (e .1) }
 
 is-model : {s : List ℕ} → Model s → modelCode s ≡ 0
-unfolding modelCode isCommand
+unfolding modelCode isCommand commandSize
 is-model c = rw (is-due refl (omega arith) (c .due), c .valid, c .period, c .parameters)
 
-pub period-most : {s : List ℕ} → Model s → getD s 2 0 ≤ 48
-period-most {s} c = period-le (hasSeason (getD s 1 0)) (getD s 2 0) (c .period)
+pub period-most : {s : List ℕ} → Model s → periodIn s ≤ 48
+period-most {s} c = period-le (hasSeason (modelIn s)) (periodIn s) (c .period)
 
 -- ---- the command 11
 pub record Level (s : List ℕ) : Type 0 where
-  pub due : Due s 19 0x11 17
-  pub values : (inRange (signedAt s 20) && trendOk (getD s 1 0) (signedAt s 28)) ≡ true
+  pub due : Due s levelAt 0x11 levelLength
+  pub values : (inRange (levelIn s) && trendOk (modelIn s) (trendIn s)) ≡ true
 
-level : (s : List ℕ) → levelCode s ≡ 0 → Level s
-unfolding levelCode
+pub level : (s : List ℕ) → levelCode s ≡ 0 → Level s
+unfolding levelCode commandSize
 level s h =
     let c = then-zero _ _ h in
-    record { due = due s 19 0x11 17 (c .0); values = unless-zero _ 8 (c .1) }
+    record { due = due s levelAt 0x11 (c .0); values = unless-zero _ 8 (c .1) }
 
 is-level : {s : List ℕ} → Level s → levelCode s ≡ 0
-unfolding levelCode isCommand
+unfolding levelCode isCommand commandSize
 is-level c = rw (is-due refl (omega arith) (c .due), c .values)
 
--- ---- the command 12 for place k
+-- ---- the command 12 of index k
 pub record Season (s : List ℕ) (k : ℕ) : Type 0 where
-  pub due : Due s (36 + 10 * k) 0x12 10
-  pub index : getD s (37 + 10 * k) 0 ≡ k
-  pub value : inRange (signedAt s (38 + 10 * k)) ≡ true
+  pub due : Due s (seasonAt k) 0x12 seasonLength
+  pub index : placeIn s k ≡ k
+  pub value : inRange (seasonIn s k) ≡ true
 
-season : (s : List ℕ) (k : ℕ) → seasonCode s k ≡ 0 → Season s k
-unfolding seasonCode
+pub season : (s : List ℕ) (k : ℕ) → seasonCode s k ≡ 0 → Season s k
+unfolding seasonCode commandSize
 season s k h =
     let c = then-zero _ _ h in
     let d = then-zero _ _ (c .1) in
-    record {
-      due = due s (36 + 10 * k) 0x12 10 (c .0);
-      index = eqb-true (getD s (37 + 10 * k) 0) k (unless-zero _ 7 (d .0));
-      value = unless-zero _ 8 (d .1);
-    }
+    record { due = due s (seasonAt k) 0x12 (c .0); index = eqb-true (placeIn s k) k (unless-zero _ 7 (d .0)); value = unless-zero _ 8 (d .1) }
 
 is-season : {s : List ℕ} {k : ℕ} → Season s k → seasonCode s k ≡ 0
-unfolding seasonCode isCommand
+unfolding seasonCode isCommand commandSize
 is-season {s} {k} c = rw (is-due refl (omega arith) (c .due), c .index, eq-eqb k k refl, c .value)
-
-seasons : (s : List ℕ) (n : ℕ) → seasonsCode s n ≡ 0 → (k : ℕ) → k < n → Season s k
-unfolding seasonsCode
-seasons s zero h k l = absurd (not-suc-le-zero l)
-seasons s (suc n) h k l =
-    let c = then-zero _ _ h in
-    ⊎-elim (λ e. subst (Season s) (sym e) (season s n (c .1))) (λ lt. seasons s n (c .0) k lt) (eq-or-lt-of-le (le-of-suc-le-suc l))
-
-are-seasons : (s : List ℕ) (n : ℕ) → ((k : ℕ) → k < n → Season s k) → seasonsCode s n ≡ 0
-unfolding seasonsCode
-are-seasons s zero c = refl
-are-seasons s (suc n) c = rw (are-seasons s n (λ k l. c k (omega arith))) (is-season (c n (omega arith)))
-
--- ---- a turn of the loop over the places: one place more, or the first rejected one
-pub season-next : (s : List ℕ) (k : ℕ) → seasonsCode s k ≡ 0 → seasonCode s k ≡ 0 → seasonsCode s (k + 1) ≡ 0
-unfolding seasonsCode
-season-next s k h e = rw (add-one k, h, e)
-
-pub seasons-all : (s : List ℕ) (n : ℕ) → seasonsCode s n ≡ 0 → seasonsRead s n ≡ n
-unfolding seasonsRead
-seasons-all s zero h = refl
-seasons-all s (suc n) h = rw h
-
-pub season-stops : (s : List ℕ) (n k : ℕ) → seasonsCode s k ≡ 0 → (seasonCode s k ≡ 0 → ⊥) → k < n
-    → (seasonsCode s n ≡ seasonCode s k) × (seasonsRead s n ≡ k)
-unfolding seasonsCode seasonsRead
-season-stops s zero k h e l = absurd (not-suc-le-zero l)
-season-stops s (suc n) k h e l =
-    ⊎-elim
-    (λ (q : k ≡ n).
-    let z : seasonsCode s n ≡ 0 = rw (← q) h in
-    let r = seasons-all s n z in
-    (rw (z, q), rw (z, ← q, ne-eqb (seasonCode s k) 0 e) (rw q r)))
-    (λ (lt : k < n).
-    let r = season-stops s n k h e lt in
-    let z = ne-eqb (seasonCode s k) 0 e in
-    (rw (r .0, z), rw (r .0, z, z) (r .1)))
-    (eq-or-lt-of-le (le-of-suc-le-suc l))
 
 -- ---- the command 13, after m places
 pub record Position (s : List ℕ) (m : ℕ) : Type 0 where
-  pub due : Due s (36 + 10 * m) 0x13 10
-  pub ok : (indexOk m (getD s (37 + 10 * m) 0) && countOk (unsignedAt s (38 + 10 * m) 8)) ≡ true
+  pub due : Due s (positionAt m) 0x13 positionLength
+  pub ok : (indexOk m (indexIn s m) && countOk (countIn s m)) ≡ true
 
-position : (s : List ℕ) (m : ℕ) → positionCode s m ≡ 0 → Position s m
-unfolding positionCode
+pub position : (s : List ℕ) (m : ℕ) → positionCode s m ≡ 0 → Position s m
+unfolding positionCode commandSize
 position s m h =
     let c = then-zero _ _ h in
-    record { due = due s (36 + 10 * m) 0x13 10 (c .0); ok = unless-zero _ 9 (c .1) }
+    record { due = due s (positionAt m) 0x13 (c .0); ok = unless-zero _ 9 (c .1) }
 
 is-position : {s : List ℕ} {m : ℕ} → Position s m → positionCode s m ≡ 0
-unfolding positionCode isCommand
+unfolding positionCode isCommand commandSize
 is-position c = rw (is-due refl (omega arith) (c .due), c .ok)
+
+-- ---- one command after the other: nothing is rejected where no command is
+finished-zero : (at code : ℕ) (r : Scanned) → finished at code r .code ≡ 0 → (code ≡ 0) × (r .code ≡ 0)
+finished-zero at zero r h = (refl, h)
+finished-zero at (suc n) r h = let e = rw (eqb·suc-zero n) at h in absurd (omega arith)
+
+seasons : (s : List ℕ) (k n : ℕ) (r : Scanned) → scanSeasons s k n r .code ≡ 0 → ((j : ℕ) → k ≤ j → j < k + n → Season s j) × (r .code ≡ 0)
+unfolding scanSeasons
+seasons s k zero r h = (λ j l u. absurd (omega arith), h)
+seasons s k (suc n) r h =
+    let f = finished-zero (seasonAt k) (seasonCode s k) (scanSeasons s (suc k) n r) h in
+    let g = seasons s (suc k) n r (f .1) in
+    (λ j l u. first j (f .0) (g .0) l u (decLe (suc k) j), g .1)
+  where
+    first : (j : ℕ) → seasonCode s k ≡ 0 → ((i : ℕ) → suc k ≤ i → i < suc k + n → Season s i) → k ≤ j → j < k + suc n → Dec (suc k ≤ j) → Season s j
+    first j z g l u (yes q) = g j q (omega arith)
+    first j z g l u (no q) = let e : j ≡ k = omega arith in rw e (season s k z)
+
+are-seasons : (s : List ℕ) (k n : ℕ) (r : Scanned) → ((j : ℕ) → k ≤ j → j < k + n → Season s j) → scanSeasons s k n r ≡ r
+unfolding scanSeasons
+are-seasons s k zero r c = refl
+are-seasons s k (suc n) r c =
+    rw (is-season (c k (omega arith) (omega arith)), are-seasons s (suc k) n r (λ j l u. c j (omega arith) (omega arith)))
 
 -- ---- a whole snapshot
 pub record Accepted (s : List ℕ) : Type 0 where
   pub model : Model s
   pub level : Level s
-  pub seasons : (k : ℕ) → k < getD s 2 0 → Season s k
-  pub position : Position s (getD s 2 0)
+  pub seasons : (k : ℕ) → k < periodIn s → Season s k
+  pub position : Position s (periodIn s)
 
 pub accepted : (s : List ℕ) → openCode s ≡ 0 → Accepted s
-unfolding openCode
+unfolding scan
 accepted s h =
-    let c = then-zero _ _ h in
-    let d = then-zero _ _ (c .1) in
-    let e = then-zero _ _ (d .1) in
-    record {
-      model = model s (c .0);
-      level = level s (d .0);
-      seasons = seasons s (getD s 2 0) (e .0);
-      position = position s (getD s 2 0) (e .1);
-    }
+    let m = finished-zero _ _ _ h in
+    let l = finished-zero _ _ _ (m .1) in
+    let x = seasons s 0 (periodIn s) _ (l .1) in
+    let p = finished-zero _ _ _ (x .1) in
+    record { model = model s (m .0); level = level s (l .0); seasons = λ k u. x .0 k (omega arith) (omega arith); position = position s (periodIn s) (p .0) }
 
 -- the code and the offset of an accepted snapshot
-pub accepts : {s : List ℕ} → Accepted s → (openCode s ≡ 0) × (openOffset s ≡ sizeOf (getD s 2 0))
-unfolding openCode openOffset
+pub accepts : {s : List ℕ} → Accepted s → scan s ≡ record { code = 0; offset = sizeOf (periodIn s) }
+unfolding scan
 accepts {s} a =
-    let m = is-model (a .model) in
-    let l = is-level (a .level) in
-    let x = are-seasons s (getD s 2 0) (a .seasons) in
-    let p = is-position (a .position) in
-    (rw (m, l, x, p), rw (m, l, x, p))
+    rw (is-model (a .model), is-level (a .level), are-seasons s 0 (periodIn s) (scanPosition s (periodIn s)) (λ k l u. a .seasons k (omega arith)), is-position (a .position))
 
--- it lies in the stream
-pub accepted-room : (s : List ℕ) → openCode s ≡ 0 → (sizeOf (getD s 2 0) ≤ length s) × (getD s 2 0 ≤ 48)
+-- it lies in the stream, and its index is one of its places
+pub accepted-size : (s : List ℕ) → openCode s ≡ 0 → (openOffset s ≡ sizeOf (periodIn s)) × (openOffset s ≤ length s)
+accepted-size s h =
+    let a = accepted s h in
+    let e = ap (λ (r : Scanned). r .offset) (accepts a) in
+    (e, rw e (a .position .due .room))
+
+index-most : (m p : ℕ) → indexOk m p ≡ true → p ≤ m
+index-most zero p h = omega (arith, eqb-true p 0 h)
+index-most (suc m) p h = omega (arith, ltb-true p (suc m) (rw (eqb·suc-zero m) at h))
+
+pub accepted-room : (s : List ℕ) → openCode s ≡ 0 → Room s (periodIn s) (indexIn s (periodIn s))
 accepted-room s h =
     let a = accepted s h in
-    (omega (arith, a .position .due .room), period-most (a .model))
+    record {
+      size = a .position .due .room;
+      period = period-most (a .model);
+      index = index-most (periodIn s) (indexIn s (periodIn s)) (both (indexOk (periodIn s) (indexIn s (periodIn s))) (countOk (countIn s (periodIn s))) (a .position .ok) .0);
+    }

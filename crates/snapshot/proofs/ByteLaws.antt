@@ -10,14 +10,10 @@ use lib.Dec.{lit<}
 use lib.IntN.{ℤ}
 use lib.ListN.{length, length-drop, take, drop, getD, set}
 use lib.Seq.{drop-cons, getD-drop, sets, take-all, length-take-le}
-use mir.Syntax.{Width, w8, w16, w32, w64, w128}
-use mir.Val.{Fits, SFits, bits, bytes, ofZ}
+use mir.Syntax.{w64}
+use mir.Val.{SFits, ofZ}
 use mir.ValLaws.{ofZ-fits, toZ-ofZ, ofZ-toZ}
-use Rattle.snapshot.specs.Bytes.{fromBytes, toBytes, unsignedAt, signedAt, signedBytes}
-
--- every element is a byte, as the borrow checker says it of a slice: past the end `getD` gives 0
-abbrev pub AreBytes : List ℕ → Type 0
-AreBytes xs = (i : ℕ) → Fits w8 (getD xs i 0)
+use Rattle.snapshot.specs.Bytes.{AreBytes, fromBytes, toBytes, unsignedAt, signedAt, signedBytes}
 
 pub bytes-drop : (a : ℕ) (xs : List ℕ) → AreBytes xs → AreBytes (drop a xs)
 bytes-drop a xs h i = rw (getD-drop a xs i 0) (h (a + i))
@@ -72,14 +68,6 @@ pub length-toBytes : (k n : ℕ) → length (toBytes k n) ≡ k
 unfolding toBytes
 length-toBytes zero n = refl
 length-toBytes (suc k) n = ap suc (length-toBytes k (n / 256))
-
--- the bytes of a width hold exactly its numbers
-pub width : (w : Width) → 256 ^ bytes w ≡ 2 ^ bits w
-width w8 = refl
-width w16 = refl
-width w32 = refl
-width w64 = refl
-width w128 = refl
 
 -- ---- operands at an offset: what was read is written again, and what was written is read
 module _ (s : List ℕ) (at : ℕ) where

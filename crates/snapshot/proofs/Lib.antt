@@ -1,7 +1,10 @@
-pub mod ByteLaws
 pub mod Accepting
+pub mod AnswerLaws
+pub mod ByteLaws
+pub mod InPlaceLaws
+pub mod InPlaceSteps
+pub mod OffsetLaws
+pub mod Patches
 pub mod RoundTrip
 pub mod Signed
 pub mod Tabulated
-pub mod Patches
-pub mod FieldLaws

@@ -6,43 +6,48 @@ use mathlib.Core.Logic.{⊎-elim}
 use mathlib.Core.List.{List, _∷_, _++_, append-assoc}
 use native.Mathlib.Nat.{le-refl, zero-add, add-zero, le-of-suc-le-suc, eq-or-lt-of-le, not-suc-le-zero, lt-of-le-of-lt}
 use native.Mathlib.Omega.{arith}
-use borrow.Author.Tests.{eqb-true, ltb-true, ltb-false, leb-true, lt-ltb, le-ltb, le-leb}
-use lib.Dec.{lit<, eqb, ltb, leb}
+use borrow.Author.Tests.{eqb-true, ltb-true, ltb-false, le-leb, lt-ltb, le-ltb}
+use lib.Dec.{lit<, eqb, ltb}
 use lib.IntN.{ℤ, pos}
 use lib.ListN.{length, length-append, length-drop, length-set, getD-replicate, take, drop, getD, replicate, take-append-drop}
-use lib.Seq.{getD-drop, drop-drop, drop-at, take-at, drop-cons, take-suc, set-at, length-take-le, append-snoc, ext-getD, getD-set-same, getD-set-other, take-add, sets, sets-eq}
+use lib.Seq.{getD-drop, drop-drop, drop-at, take-at, drop-cons, take-suc, set-at, length-take-le, take-all, append-snoc, ext-getD, getD-set-same, getD-set-other, take-add, sets, sets-eq}
 use mir.Syntax.{w64}
 use mir.Val.{SFits, ofZ}
 use Rattle.integers.specs.Bounds.{Within}
 use Rattle.integers.proofs.Bounds.{within-fits}
-use Rattle.state.specs.Rejections.{unless, outcome, short-buffer}
 use Rattle.state.specs.Fixed.{inRange, isZero}
 use Rattle.state.specs.Models.{trendOf, seasonOf, validModel}
 use Rattle.state.specs.States.{check, cellOk}
 use Rattle.state.specs.declared.State.{State}
-use Rattle.state.specs.declared.Outcome.the-variants as outcome-of
-use Rattle.state.proofs.Answers.{outcome-accepted}
-use Rattle.state.proofs.Tests.{both, unless-zero, then-zero, model-law, allBelow-at, allBelow-all, zero-is}
+use Rattle.state.proofs.Tests.{both, model-law, allBelow-at, allBelow-all, zero-is}
 use Rattle.state.proofs.Passing.{Passed, passed, passes, Bounded, bounded}
-use Rattle.snapshot.specs.Bytes.{toBytes, signedBytes, signedAt, unsignedAt}
-use Rattle.snapshot.specs.Snapshots.{openCode, openOffset, cellsAt, decoded, modelByte, modelBytes, levelBytes, seasonBytes, seasonsBytes, positionBytes, encoded, sizeOf, read, restOf, save, saveCode, savedBytes}
-use Rattle.snapshot.proofs.ByteLaws.{AreBytes, length-toBytes, unsigned-back, signed-back, unsigned-again, signed-again}
-use Rattle.snapshot.proofs.Accepting.{Due, Season, Accepted, accepted, accepts, period-most}
+use Rattle.snapshot.specs.Bytes.{AreBytes, toBytes, signedBytes, unsignedAt}
+use Rattle.snapshot.specs.CommandTable.{modelLength, levelLength, seasonLength, positionLength}
+use Rattle.snapshot.specs.Layout.{modelAt, levelAt, seasonAt, positionAt, sizeOf, modelIn, periodIn, alphaIn, betaIn, gammaIn, phiIn, levelIn, trendIn, placeIn, seasonIn, indexIn, countIn, modelByte, modelBytes, levelBytes, seasonBytes, seasonsBytes, positionBytes}
+use Rattle.snapshot.specs.Snapshots.{openCode, openOffset, cellsAt, decoded, encoded, save, saveCode, savedBytes, read, restOf}
+use Rattle.snapshot.specs.Promises.{ReadsSaved, SavesRead}
+use Rattle.snapshot.specs.declared.reading.Scanned.{Scanned}
+use Rattle.snapshot.proofs.ByteLaws.{length-toBytes, unsigned-back, signed-back, unsigned-again, signed-again}
+use Rattle.snapshot.proofs.Accepting.{Due, Season, Accepted, accepted, accepts, accepted-size, period-most}
 
 -- ---- lengths
-pub length-model : (s : State) → length (modelBytes s) ≡ 19
+pub length-model : (model m A B G F : ℕ) → length (modelBytes model m A B G F) ≡ modelLength
 unfolding modelBytes toBytes
-length-model s = refl
+length-model model m A B G F = refl
 
-pub length-level : (s : State) → length (levelBytes s) ≡ 17
+pub length-level : (l b : ℤ) → length (levelBytes l b) ≡ levelLength
 unfolding levelBytes toBytes
-length-level s = refl
+length-level l b = refl
 
-pub length-season : (k : ℕ) (v : ℤ) → length (seasonBytes k v) ≡ 10
+pub length-season : (k : ℕ) (v : ℤ) → length (seasonBytes k v) ≡ seasonLength
 unfolding seasonBytes toBytes
 length-season k v = refl
 
-pub length-seasons : (cells : List ℤ) (n : ℕ) → length (seasonsBytes cells n) ≡ 10 * n
+pub length-position : (p n : ℕ) → length (positionBytes p n) ≡ positionLength
+unfolding positionBytes toBytes
+length-position p n = refl
+
+pub length-seasons : (cells : List ℤ) (n : ℕ) → length (seasonsBytes cells n) ≡ seasonLength * n
 unfolding seasonsBytes
 length-seasons cells zero = refl
 length-seasons cells (suc n) =
@@ -51,7 +56,7 @@ length-seasons cells (suc n) =
 pub length-encoded : (s : State) → length (encoded s) ≡ sizeOf (s .period)
 unfolding encoded modelBytes levelBytes positionBytes toBytes
 length-encoded s =
-    rw (length-append (seasonsBytes (s .seasonal) (s .period)) (positionBytes s), length-seasons (s .seasonal) (s .period)) (omega arith)
+    rw (length-append (seasonsBytes (s .seasonal) (s .period)) (positionBytes (s .index) (s .count)), length-seasons (s .seasonal) (s .period)) (omega arith)
 
 -- ---- a command with an index byte and eight bytes more, at an offset of a stream
 module _ (x : List ℕ) (at first k : ℕ) (bs u : List ℕ) (e : drop at x ≡ (first ∷ k ∷ bs) ++ u) where
@@ -66,14 +71,14 @@ module _ (x : List ℕ) (at first k : ℕ) (bs u : List ℕ) (e : drop at x ≡ 
 
 -- the command of place k among those of n places
 season-at : (cells : List ℤ) (n k : ℕ) (u : List ℕ) → k < n
-    → (v : List ℕ) × (drop (10 * k) (seasonsBytes cells n ++ u) ≡ seasonBytes k (getD cells k (pos 0)) ++ v)
+    → (v : List ℕ) × (drop (seasonLength * k) (seasonsBytes cells n ++ u) ≡ seasonBytes k (getD cells k (pos 0)) ++ v)
 unfolding seasonsBytes
 season-at cells zero k u l = absurd (not-suc-le-zero l)
 season-at cells (suc n) k u l =
     let A = seasonsBytes cells n in
     let B = seasonBytes n (getD cells n (pos 0)) in
     ⊎-elim
-    (λ (q : k ≡ n). (u, rw (q, append-assoc A B u) (drop-at A (B ++ u) (10 * n) (length-seasons cells n))))
+    (λ (q : k ≡ n). (u, rw (q, append-assoc A B u) (drop-at A (B ++ u) (seasonLength * n) (length-seasons cells n))))
     (λ lt. rw (append-assoc A B u) (season-at cells n k (B ++ u) lt))
     (eq-or-lt-of-le (le-of-suc-le-suc l))
 
@@ -91,30 +96,30 @@ module _ (s : State) (t : List ℕ) (p : Passed s) (b : Bounded s) where
   abbrev x : List ℕ
   x = encoded s ++ t
 
-  after-level : drop 36 x ≡ seasonsBytes (s .seasonal) (s .period) ++ (positionBytes s ++ t)
+  after-level : drop (seasonAt 0) x ≡ seasonsBytes (s .seasonal) (s .period) ++ (positionBytes (s .index) (s .count) ++ t)
   unfolding encoded modelBytes levelBytes toBytes
-  after-level = append-assoc (seasonsBytes (s .seasonal) (s .period)) (positionBytes s) t
+  after-level = append-assoc (seasonsBytes (s .seasonal) (s .period)) (positionBytes (s .index) (s .count)) t
 
-  after : (n : ℕ) → drop (36 + n) x ≡ drop n (seasonsBytes (s .seasonal) (s .period) ++ (positionBytes s ++ t))
-  after n = rw (← (drop-drop n 36 x), after-level)
+  after : (n : ℕ) → drop (seasonAt 0 + n) x ≡ drop n (seasonsBytes (s .seasonal) (s .period) ++ (positionBytes (s .index) (s .count) ++ t))
+  after n = rw (← (drop-drop n (seasonAt 0) x), after-level)
 
-  model-back : getD x 1 0 ≡ s .model
+  model-back : modelIn x ≡ s .model
   unfolding encoded modelBytes
   model-back = model-again (s .model) (p .model)
 
   parameter-back : (at n : ℕ) → take 4 (drop at x) ≡ toBytes 4 n → n ≤ 65536 → unsignedAt x at 4 ≡ n
   parameter-back at n e h = unsigned-back x at 4 n e (lt-of-le-of-lt h (lit< tt))
 
-  parameters-back : (unsignedAt x 3 4 ≡ s .alpha) × (unsignedAt x 7 4 ≡ s .beta) × (unsignedAt x 11 4 ≡ s .gamma) × (unsignedAt x 15 4 ≡ s .phi)
+  parameters-back : (alphaIn x ≡ s .alpha) × (betaIn x ≡ s .beta) × (gammaIn x ≡ s .gamma) × (phiIn x ≡ s .phi)
   unfolding encoded modelBytes toBytes
   parameters-back =
-      (parameter-back 3 (s .alpha) refl (b .alpha), parameter-back 7 (s .beta) refl (b .beta), parameter-back 11 (s .gamma) refl (b .gamma), parameter-back 15 (s .phi) refl (b .phi))
+      (parameter-back (modelAt + 3) (s .alpha) refl (b .alpha), parameter-back (modelAt + 7) (s .beta) refl (b .beta), parameter-back (modelAt + 11) (s .gamma) refl (b .gamma), parameter-back (modelAt + 15) (s .phi) refl (b .phi))
 
-  values-back : (signedAt x 20 ≡ s .level) × (signedAt x 28 ≡ s .trend)
+  values-back : (levelIn x ≡ s .level) × (trendIn x ≡ s .trend)
   unfolding encoded modelBytes levelBytes toBytes
-  values-back = (signed-back x 20 (s .level) refl (fits (b .level)), signed-back x 28 (s .trend) refl (fits (b .trend)))
+  values-back = (signed-back x (levelAt + 1) (s .level) refl (fits (b .level)), signed-back x (levelAt + 9) (s .trend) refl (fits (b .trend)))
 
-  size : length x ≡ 46 + 10 * s .period + length t
+  size : length x ≡ sizeOf (s .period) + length t
   size = length-append (encoded s) t ∙ ap (λ (n : ℕ). n + length t) (length-encoded s)
 
   cell-ok : (k : ℕ) → k < 48 → cellOk (s .period) k (getD (s .seasonal) k (pos 0)) ≡ true
@@ -125,22 +130,22 @@ module _ (s : State) (t : List ℕ) (p : Passed s) (b : Bounded s) where
     abbrev cell : ℤ
     cell = getD (s .seasonal) k (pos 0)
 
-    command : (v : List ℕ) × (drop (36 + 10 * k) x ≡ seasonBytes k cell ++ v)
-    command = rw (after (10 * k)) (season-at (s .seasonal) (s .period) k (positionBytes s ++ t) l)
+    command : (v : List ℕ) × (drop (seasonAt k) x ≡ seasonBytes k cell ++ v)
+    command = rw (after (seasonLength * k)) (season-at (s .seasonal) (s .period) k (positionBytes (s .index) (s .count) ++ t) l)
 
-    cell-back : signedAt x (38 + 10 * k) ≡ cell
+    cell-back : seasonIn x k ≡ cell
     unfolding seasonBytes
     cell-back =
-        signed-back x (38 + 10 * k) cell
-        (operand-at x (36 + 10 * k) 0x12 k (signedBytes cell) (command .0) (command .1) (38 + 10 * k) 8 (omega arith) (length-toBytes 8 (ofZ w64 cell)))
+        signed-back x (seasonAt k + 2) cell
+        (operand-at x (seasonAt k) 0x12 k (signedBytes cell) (command .0) (command .1) (seasonAt k + 2) 8 refl (length-toBytes 8 (ofZ w64 cell)))
         (fits (b .cells k (omega (arith, b .period))))
 
     season-back : Season x k
     unfolding seasonBytes
     season-back =
         record {
-          due = record { byte = byte-at x (36 + 10 * k) 0x12 k (signedBytes cell) (command .0) (command .1); room = omega (arith, size) };
-          index = index-at x (36 + 10 * k) 0x12 k (signedBytes cell) (command .0) (command .1) (37 + 10 * k) (omega arith);
+          due = record { byte = byte-at x (seasonAt k) 0x12 k (signedBytes cell) (command .0) (command .1); room = omega (arith, size) };
+          index = index-at x (seasonAt k) 0x12 k (signedBytes cell) (command .0) (command .1) (seasonAt k + 1) refl;
           value = rw cell-back (rw (lt-ltb k (s .period) l) at (cell-ok k (omega (arith, b .period))));
         }
 
@@ -169,35 +174,35 @@ module _ (s : State) (t : List ℕ) (p : Passed s) (b : Bounded s) where
   seasonal-back l = rw (cells-back (s .period) (le-refl (s .period)) l, zeros l) (take-append-drop (s .period) (s .seasonal))
 
   -- the command 13
-  last : drop (36 + 10 * s .period) x ≡ positionBytes s ++ t
+  last : drop (positionAt (s .period)) x ≡ positionBytes (s .index) (s .count) ++ t
   last =
-      after (10 * s .period) ∙ drop-at (seasonsBytes (s .seasonal) (s .period)) (positionBytes s ++ t) (10 * s .period) (length-seasons (s .seasonal) (s .period))
+      after (seasonLength * s .period) ∙ drop-at (seasonsBytes (s .seasonal) (s .period)) (positionBytes (s .index) (s .count) ++ t) (seasonLength * s .period) (length-seasons (s .seasonal) (s .period))
 
-  index-back : getD x (37 + 10 * s .period) 0 ≡ s .index
+  index-back : indexIn x (s .period) ≡ s .index
   unfolding positionBytes
-  index-back = index-at x (36 + 10 * s .period) 0x13 (s .index) (toBytes 8 (s .count)) t last (37 + 10 * s .period) (omega arith)
+  index-back = index-at x (positionAt (s .period)) 0x13 (s .index) (toBytes 8 (s .count)) t last (positionAt (s .period) + 1) refl
 
-  count-back : unsignedAt x (38 + 10 * s .period) 8 ≡ s .count
+  count-back : countIn x (s .period) ≡ s .count
   unfolding positionBytes
   count-back =
-      unsigned-back x (38 + 10 * s .period) 8 (s .count)
-      (operand-at x (36 + 10 * s .period) 0x13 (s .index) (toBytes 8 (s .count)) t last (38 + 10 * s .period) 8 (omega arith) (length-toBytes 8 (s .count)))
+      unsigned-back x (positionAt (s .period) + 2) 8 (s .count)
+      (operand-at x (positionAt (s .period)) 0x13 (s .index) (toBytes 8 (s .count)) t last (positionAt (s .period) + 2) 8 refl (length-toBytes 8 (s .count)))
       (lt-of-le-of-lt (b .count) (lit< tt))
 
-  position-due : Due x (36 + 10 * s .period) 0x13 10
+  position-due : Due x (positionAt (s .period)) 0x13 10
   unfolding positionBytes
   position-due =
-      record { byte = byte-at x (36 + 10 * s .period) 0x13 (s .index) (toBytes 8 (s .count)) t last; room = omega (arith, size) }
+      record { byte = byte-at x (positionAt (s .period)) 0x13 (s .index) (toBytes 8 (s .count)) t last; room = omega (arith, size) }
 
-  model-due : Due x 0 0x10 19
+  model-due : Due x modelAt 0x10 modelLength
   unfolding encoded modelBytes
   model-due = record { byte = refl; room = omega (arith, size) }
 
-  level-due : Due x 19 0x11 17
+  level-due : Due x levelAt 0x11 levelLength
   unfolding encoded modelBytes levelBytes toBytes
   level-due = record { byte = refl; room = omega (arith, size) }
 
-  period-back : getD x 2 0 ≡ s .period
+  period-back : periodIn x ≡ s .period
   unfolding encoded modelBytes
   period-back = refl
 
@@ -227,38 +232,38 @@ read-back s t l h =
     let p = passed s h in
     let b = bounded s h in
     let a = accepts (accepted-back s t p b) in
-    (a .0, a .1 ∙ ap sizeOf (period-back s t p b) ∙ sym (length-encoded s), decoded-back s t p b l)
+    (ap (λ (r : Scanned). r .code) a, ap (λ (r : Scanned). r .offset) a ∙ ap sizeOf (period-back s t p b) ∙ sym (length-encoded s), decoded-back s t p b l)
 
 -- ---- the season cells that were read
 pub length-cells : (s : List ℕ) (n : ℕ) → length (cellsAt s n) ≡ 48
 unfolding cellsAt
 length-cells s zero = refl
-length-cells s (suc n) = length-set (cellsAt s n) n (signedAt s (38 + 10 * n)) ∙ length-cells s n
+length-cells s (suc n) = length-set (cellsAt s n) n (seasonIn s n) ∙ length-cells s n
 
-pub cell-read : (s : List ℕ) (n k : ℕ) → n ≤ 48 → k < n → getD (cellsAt s n) k (pos 0) ≡ signedAt s (38 + 10 * k)
+pub cell-read : (s : List ℕ) (n k : ℕ) → n ≤ 48 → k < n → getD (cellsAt s n) k (pos 0) ≡ seasonIn s k
 unfolding cellsAt
 cell-read s zero k h l = absurd (not-suc-le-zero l)
 cell-read s (suc n) k h l =
     ⊎-elim
-    (λ (q : k ≡ n). rw q (getD-set-same (cellsAt s n) n (signedAt s (38 + 10 * n)) (pos 0) (rw (length-cells s n) h)))
-    (λ (lt : k < n). getD-set-other (cellsAt s n) n k (signedAt s (38 + 10 * n)) (pos 0) (λ q. omega arith) ∙ cell-read s n k (omega arith) lt)
+    (λ (q : k ≡ n). rw q (getD-set-same (cellsAt s n) n (seasonIn s n) (pos 0) (rw (length-cells s n) h)))
+    (λ (lt : k < n). getD-set-other (cellsAt s n) n k (seasonIn s n) (pos 0) (λ q. omega arith) ∙ cell-read s n k (omega arith) lt)
     (eq-or-lt-of-le (le-of-suc-le-suc l))
 
 pub cell-none : (s : List ℕ) (n k : ℕ) → k < 48 → n ≤ k → getD (cellsAt s n) k (pos 0) ≡ pos 0
 unfolding cellsAt
 cell-none s zero k h l = getD-replicate 48 k (pos 0) (pos 0) h
 cell-none s (suc n) k h l =
-    getD-set-other (cellsAt s n) n k (signedAt s (38 + 10 * n)) (pos 0) (λ q. omega arith) ∙ cell-none s n k h (omega arith)
+    getD-set-other (cellsAt s n) n k (seasonIn s n) (pos 0) (λ q. omega arith) ∙ cell-none s n k h (omega arith)
 
 -- ---- what was accepted passes the checks
-cell-passes : (s : List ℕ) → Accepted s → (k : ℕ) → k < 48 → cellOk (getD s 2 0) k (getD (cellsAt s (getD s 2 0)) k (pos 0)) ≡ true
-cell-passes s a k h = go (ltb k (getD s 2 0)) refl
+cell-passes : (s : List ℕ) → Accepted s → (k : ℕ) → k < 48 → cellOk (periodIn s) k (getD (cellsAt s (periodIn s)) k (pos 0)) ≡ true
+cell-passes s a k h = go (ltb k (periodIn s)) refl
   where
-    go : (t : Bool) → ltb k (getD s 2 0) ≡ t → cond t (inRange (getD (cellsAt s (getD s 2 0)) k (pos 0))) (isZero (getD (cellsAt s (getD s 2 0)) k (pos 0))) ≡ true
+    go : (t : Bool) → ltb k (periodIn s) ≡ t → cond t (inRange (getD (cellsAt s (periodIn s)) k (pos 0))) (isZero (getD (cellsAt s (periodIn s)) k (pos 0))) ≡ true
     go true e =
-        let l = ltb-true k (getD s 2 0) e in
-        rw (cell-read s (getD s 2 0) k (period-most (a .model)) l) (a .seasons k l .value)
-    go false e = rw (cell-none s (getD s 2 0) k h (ltb-false k (getD s 2 0) e))
+        let l = ltb-true k (periodIn s) e in
+        rw (cell-read s (periodIn s) k (period-most (a .model)) l) (a .seasons k l .value)
+    go false e = rw (cell-none s (periodIn s) k h (ltb-false k (periodIn s) e))
 
 pub accepted-passes : (s : List ℕ) → openCode s ≡ 0 → check (decoded s) ≡ 0
 unfolding decoded
@@ -279,21 +284,18 @@ accepted-passes s h =
       phi = q4 .1;
       level = v .0;
       trend = v .1;
-      seasonal = allBelow-all 48 (λ (k : ℕ). cellOk (getD s 2 0) k (getD (cellsAt s (getD s 2 0)) k (pos 0))) (cell-passes s a);
+      seasonal = allBelow-all 48 (λ (k : ℕ). cellOk (periodIn s) k (getD (cellsAt s (periodIn s)) k (pos 0))) (cell-passes s a);
       index = i .0;
       count = i .1;
     })
 
+decoded-size : (s : List ℕ) → openCode s ≡ 0 → sizeOf (decoded s .period) ≡ openOffset s
+unfolding decoded
+decoded-size s h = sym (accepted-size s h .0)
+
 pub length-decoded : (s : List ℕ) → length (decoded s .seasonal) ≡ 48
 unfolding decoded
-length-decoded s = length-cells s (getD s 2 0)
-
-pub accepted-size : (s : List ℕ) → openCode s ≡ 0 → (openOffset s ≡ sizeOf (decoded s .period)) × (openOffset s ≤ length s)
-unfolding decoded
-accepted-size s h =
-    let a = accepted s h in
-    let e = accepts a .1 in
-    (e, rw e (omega (arith, a .position .due .room)))
+length-decoded s = length-cells s (periodIn s)
 
 -- ---- the bytes of a stream from an offset on, cut in two
 head-at : (s : List ℕ) (at n : ℕ) → at < length s → take (suc n) (drop at s) ≡ getD s at 0 ∷ take n (drop (suc at) s)
@@ -303,84 +305,80 @@ cut-at : (s : List ℕ) (at n k : ℕ) → take (n + k) (drop at s) ≡ take n (
 cut-at s at n k = take-add n k (drop at s) ∙ ap (λ (l : List ℕ). take n (drop at s) ++ take k l) (drop-drop n at s)
 
 -- a command with an index byte and eight bytes more
-indexed-at : (s : List ℕ) (at first i : ℕ) → Due s at first 10 → getD s (suc at) 0 ≡ i → take 10 (drop at s) ≡ first ∷ i ∷ take 8 (drop (suc (suc at)) s)
+indexed-at : (s : List ℕ) (at first i : ℕ) → Due s at first 10 → getD s (at + 1) 0 ≡ i → take 10 (drop at s) ≡ first ∷ i ∷ take 8 (drop (at + 2) s)
 indexed-at s at first i d e =
     let r = d .room in
-    rw (head-at s at 9 (omega arith), head-at s (suc at) 8 (omega arith), d .byte, e)
+    let p : suc at ≡ at + 1 = omega arith in
+    let q : suc (at + 1) ≡ at + 2 = omega arith in
+    rw (head-at s at 9 (omega arith), p, head-at s (at + 1) 8 (omega arith), d .byte, e, q)
 
 module _ (s : List ℕ) (b : AreBytes s) (a : Accepted s) where
-  model-same : modelBytes (decoded s) ≡ take 19 s
-  unfolding modelBytes decoded
+  model-same : modelBytes (modelIn s) (periodIn s) (alphaIn s) (betaIn s) (gammaIn s) (phiIn s) ≡ take modelLength s
+  unfolding modelBytes
   model-same =
       let r = a .model .due .room in
-      rw (unsigned-again s 3 4 b (omega arith), unsigned-again s 7 4 b (omega arith), unsigned-again s 11 4 b (omega arith), unsigned-again s 15 4 b (omega arith), model-again (getD s 1 0) (a .model .valid), ← (a .model .due .byte))
+      rw (unsigned-again s 3 4 b (omega arith), unsigned-again s 7 4 b (omega arith), unsigned-again s 11 4 b (omega arith), unsigned-again s 15 4 b (omega arith), model-again (modelIn s) (a .model .valid), ← (a .model .due .byte))
       (sym (rw (head-at s 0 18 (omega arith), head-at s 1 17 (omega arith), head-at s 2 16 (omega arith), cut-at s 3 4 12, cut-at s 7 4 8, cut-at s 11 4 4)))
 
-  level-same : levelBytes (decoded s) ≡ take 17 (drop 19 s)
-  unfolding levelBytes decoded
+  level-same : levelBytes (levelIn s) (trendIn s) ≡ take levelLength (drop levelAt s)
+  unfolding levelBytes
   level-same =
       let r = a .level .due .room in
-      rw (signed-again s 20 b (omega arith), signed-again s 28 b (omega arith), head-at s 19 16 (omega arith), cut-at s 20 8 8, a .level .due .byte)
+      rw (signed-again s (levelAt + 1) b (omega arith), signed-again s (levelAt + 9) b (omega arith), head-at s levelAt 16 (omega arith), cut-at s (levelAt + 1) 8 8, a .level .due .byte)
 
-  seasons-same : (n : ℕ) → n ≤ getD s 2 0 → seasonsBytes (cellsAt s (getD s 2 0)) n ≡ take (10 * n) (drop 36 s)
+  seasons-same : (n : ℕ) → n ≤ periodIn s → seasonsBytes (cellsAt s (periodIn s)) n ≡ take (seasonLength * n) (drop (seasonAt 0) s)
   unfolding seasonsBytes seasonBytes
   seasons-same zero h = refl
   seasons-same (suc n) h =
       let c = a .seasons n h in
       let r = c .due .room in
-      let e : 10 * suc n ≡ 10 * n + 10 = omega arith in
-      let i : 37 + 10 * n ≡ suc (36 + 10 * n) = omega arith in
-      let o : 38 + 10 * n ≡ suc (suc (36 + 10 * n)) = omega arith in
-      rw (seasons-same n (omega arith), cell-read s (getD s 2 0) n (period-most (a .model)) h, signed-again s (38 + 10 * n) b (omega arith), e, cut-at s 36 (10 * n) 10, indexed-at s (36 + 10 * n) 0x12 n (c .due) (rw i at (c .index)), o)
+      let e : seasonLength * suc n ≡ seasonLength * n + seasonLength = omega arith in
+      rw (seasons-same n (omega arith), cell-read s (periodIn s) n (period-most (a .model)) h, signed-again s (seasonAt n + 2) b (omega arith), e, cut-at s (seasonAt 0) (seasonLength * n) seasonLength, indexed-at s (seasonAt n) 0x12 n (c .due) (c .index))
 
-  position-same : positionBytes (decoded s) ≡ take 10 (drop (36 + 10 * getD s 2 0) s)
-  unfolding positionBytes decoded
+  position-same : positionBytes (indexIn s (periodIn s)) (countIn s (periodIn s)) ≡ take positionLength (drop (positionAt (periodIn s)) s)
+  unfolding positionBytes
   position-same =
-      let m = getD s 2 0 in
       let r = a .position .due .room in
-      let i : 37 + 10 * m ≡ suc (36 + 10 * m) = omega arith in
-      let o : 38 + 10 * m ≡ suc (suc (36 + 10 * m)) = omega arith in
-      rw (unsigned-again s (38 + 10 * m) 8 b (omega arith), indexed-at s (36 + 10 * m) 0x13 (getD s (suc (36 + 10 * m)) 0) (a .position .due) refl, i, o)
-
-  cells-same : seasonsBytes (decoded s .seasonal) (decoded s .period) ≡ take (10 * getD s 2 0) (drop 36 s)
-  unfolding decoded
-  cells-same = seasons-same (getD s 2 0) (le-refl (getD s 2 0))
+      rw (unsigned-again s (positionAt (periodIn s) + 2) 8 b (omega arith), indexed-at s (positionAt (periodIn s)) 0x13 (indexIn s (periodIn s)) (a .position .due) refl)
 
 -- ---- saving what was read writes the same bytes
 pub saved-back : (s : List ℕ) → AreBytes s → openCode s ≡ 0 → encoded (decoded s) ≡ take (openOffset s) s
-unfolding encoded
+unfolding encoded decoded
 saved-back s b h =
     let a = accepted s h in
-    let m = getD s 2 0 in
-    let e : 46 + 10 * m ≡ 19 + (17 + (10 * m + 10)) = omega arith in
-    rw (accepts a .1, e, cut-at s 0 19 (17 + (10 * m + 10)), cut-at s 19 17 (10 * m + 10), cut-at s 36 (10 * m) 10, model-same s b a, level-same s b a, cells-same s b a, position-same s b a)
+    let n = seasonLength * periodIn s in
+    let e : sizeOf (periodIn s) ≡ modelLength + (levelLength + (n + positionLength)) = omega arith in
+    rw (accepted-size s h .0, e, cut-at s 0 modelLength (levelLength + (n + positionLength)), cut-at s levelAt levelLength (n + positionLength), cut-at s (seasonAt 0) n positionLength, model-same s b a, level-same s b a, seasons-same s b a (periodIn s) (le-refl (periodIn s)), position-same s b a)
 
 -- ---- the same in the words of the contracts
-pub stored : (d xs : List ℕ) → length xs ≤ length d → sets d 0 xs ≡ xs ++ drop (length xs) d
-stored d xs h = sets-eq xs d 0 (rw (zero-add (length xs)) h) ∙ ap (λ (n : ℕ). xs ++ drop n d) (zero-add (length xs))
+stored : (d xs : List ℕ) (n : ℕ) → length xs ≡ n → n ≤ length d → sets d 0 xs ≡ xs ++ drop n d
+stored d xs n e h = rw (← e) (sets-eq xs d 0 (rw (zero-add (length xs), e) h) ∙ ap (λ (k : ℕ). xs ++ drop k d) (zero-add (length xs)))
 
--- what was saved is read as the state, and the rest is what followed it
-pub read-saved : (s : State) (d : List ℕ) → length (s .seasonal) ≡ 48 → save s (length d) ≡ outcome-of.Accepted
-    → (read (savedBytes s d) ≡ record { outcome = outcome-of.Accepted; state = s }) × (restOf (savedBytes s d) ≡ drop (sizeOf (s .period)) d)
-unfolding save saveCode savedBytes read restOf
-read-saved s d l e =
-    let z = outcome-accepted (saveCode s (length d)) e in
-    let c = then-zero (check s) (unless (leb (sizeOf (s .period)) (length d)) short-buffer) z in
-    let h : sizeOf (s .period) ≤ length d = leb-true (sizeOf (s .period)) (length d) (unless-zero _ 11 (c .1)) in
+saves : (s : State) (d : List ℕ) → check s ≡ 0 → sizeOf (s .period) ≤ length d → saveCode s (length d) ≡ 0
+unfolding saveCode
+saves s d ok h = rw (ok, le-leb (sizeOf (s .period)) (length d) h)
+
+pub reads-saved : ReadsSaved
+unfolding save savedBytes read restOf
+reads-saved s d full ok h =
+    let z = saves s d ok h in
     let n = length-encoded s in
-    let w = stored d (encoded s) (rw n h) in
-    let r = read-back s (drop (length (encoded s)) d) l (c .0) in (
-      rw (z, w, r .0, r .2),
-      rw (z, w, r .1) (drop-at (encoded s) (drop (length (encoded s)) d) (length (encoded s)) refl ∙ rw n),
-    )
+    let w = stored d (encoded s) (sizeOf (s .period)) n h in
+    let r = read-back s (drop (sizeOf (s .period)) d) full ok in
+    record {
+      saves = rw z;
+      reads = rw (z, w, r .0, r .2);
+      leaves = rw (z, w, r .1, n) (drop-at (encoded s) (drop (sizeOf (s .period)) d) (sizeOf (s .period)) n);
+    }
 
--- what was read is saved as the same bytes
-pub saved-read : (s : List ℕ) → AreBytes s → read s .outcome ≡ outcome-of.Accepted → savedBytes (read s .state) s ≡ s
-unfolding read savedBytes saveCode
-saved-read s b e =
-    let h = outcome-accepted (openCode s) e in
+pub saves-read : SavesRead
+unfolding save savedBytes read
+saves-read s d b h l =
     let o = accepted-size s h in
-    let t = saved-back s b h in
-    let l : length (take (openOffset s) s) ≡ openOffset s = length-take-le (openOffset s) s (o .1) in
-    rw (h, accepted-passes s h, le-leb (sizeOf (decoded s .period)) (length s) (rw (← (o .0)) (o .1)), t)
-    (stored s (take (openOffset s) s) (rw l (o .1)) ∙ rw l (take-append-drop (openOffset s) s))
+    let k : length (take (openOffset s) s) ≡ openOffset s = length-take-le (openOffset s) s (o .1) in
+    let z = saves (decoded s) d (accepted-passes s h) (rw (decoded-size s h) l) in
+    record { saves = rw (h, z); bytes = rw (h, z, saved-back s b h) (stored d (take (openOffset s) s) (openOffset s) k l) }
+
+-- a slice that holds one snapshot is the snapshot of its state
+pub whole : (d : List ℕ) → AreBytes d → openCode d ≡ 0 → openOffset d ≡ length d → encoded (decoded d) ≡ d
+whole d b ok e = saved-back d b ok ∙ rw e (take-all (length d) d (omega arith))

@@ -2,9 +2,13 @@
 use Prim.Native.Nat.{ℕ, zero, suc, _+_, _*_, _/_, _%_}
 use mathlib.Core.List.{List, [], _∷_}
 use lib.IntN.{ℤ}
-use lib.ListN.{take, drop}
-use mir.Syntax.{w64}
-use mir.Val.{toZ, ofZ}
+use lib.ListN.{take, drop, getD}
+use mir.Syntax.{w8, w64}
+use mir.Val.{Fits, toZ, ofZ}
+
+-- every element is a byte, as of a slice in the code (past the end `getD` gives 0)
+abbrev pub AreBytes : List ℕ → Type 0
+AreBytes s = (i : ℕ) → Fits w8 (getD s i 0)
 
 -- the number of a list of bytes, low byte first
 unfoldable pub fromBytes : List ℕ → ℕ

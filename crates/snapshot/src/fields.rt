@@ -1,50 +1,41 @@
-// The numbers of a snapshot in a lent slice, read and written at their places: a step on a lent snapshot copies no state.
+// The numbers of a snapshot, each read where it stands.
 use super::bytes::read_i64;
 use super::bytes::read_le;
 use super::bytes::read_u32;
-use super::reading::scan;
-use super::saving::write_level;
-use super::saving::write_position;
-use super::saving::write_season;
+use super::layout::ALPHA_AT;
+use super::layout::BETA_AT;
+use super::layout::GAMMA_AT;
+use super::layout::LEVEL_VALUE_AT;
+use super::layout::MODEL_BYTE_AT;
+use super::layout::PERIOD_AT;
+use super::layout::PHI_AT;
+use super::layout::TREND_VALUE_AT;
+use super::layout::season_at;
+use ets::Numbers;
+use state::State;
 ghost use mathlib.Core.Path.{_≡_};
-ghost use Prim.Native.Nat.{_*_, _+_};
+ghost use mathlib.Core.Bool.{cond, _||_};
+ghost use Prim.Native.Nat.{_+_, _-_, _%_, _≤_, _<_};
 ghost use lib.Dec.{eqb};
 ghost use lib.IntN.{pos};
-ghost use mathlib.Core.Bool.{cond};
-ghost use Rattle.snapshot.specs.Snapshots.{openCode};
-ghost use Rattle.snapshot.specs.Fields.{seasonValue, noScalars, scalarsAt, readScalars, levelPut, seasonPut, positionPut};
+ghost use lib.ListN.{length, replicate};
+ghost use Rattle.snapshot.specs.CommandTable.{seasonLength};
+ghost use Rattle.snapshot.specs.Layout.{seasonAt, sizeOf, periodIn, seasonIn, indexIn};
+ghost use Rattle.snapshot.specs.Snapshots.{cellsAt, decoded};
+ghost use Rattle.snapshot.specs.Facts.{Room, numbersIn, aheadIn};
 
-// The numbers of an accepted snapshot but its season values, with the one that is due; code is the rejection or 0.
-pub struct Scalars {
-    pub code: u8,
-    pub offset: usize,
-    pub period: u8,
-    pub alpha: u32,
-    pub beta: u32,
-    pub gamma: u32,
-    pub phi: u32,
-    pub level: i64,
-    pub trend: i64,
-    pub season: i64,
-    pub index: u8,
-    pub count: u64,
-}
-
-// The season value of place k, 0 where the slice does not reach so far.
-pub fn season_value(s: &[u8], k: usize) -> i64
-    ensures { λ r. ⌜ r ≡ seasonValue (now (s .entry)) k ⌝ }
+// The season value of index k.
+fn season_value(s: &[u8], k: usize) -> i64
+    requires { ⌜ (k ≤ 48) × (seasonAt k + seasonLength ≤ length (now s)) ⌝ }
+    ensures { λ r. ⌜ r ≡ seasonIn (now (s .entry)) k ⌝ }
 {
-    if k < 48 {
-        if 46 + 10 * k <= s.len() {
-            return read_i64(s, 38 + 10 * k);
-        }
-    }
-    0
+    read_i64(s, season_at(k) + 2)
 }
 
 // The season value that is due, 0 without season.
 fn season_due(s: &[u8], m: u8, p: u8) -> i64
-    ensures { λ r. ⌜ r ≡ cond (eqb m 0) (pos 0) (seasonValue (now (s .entry)) p) ⌝ }
+    requires { ⌜ Room (now s) m p ⌝ }
+    ensures { λ r. ⌜ r ≡ cond (eqb m 0) (pos 0) (seasonIn (now (s .entry)) p) ⌝ }
 {
     if m == 0 {
         return 0;
@@ -52,87 +43,77 @@ fn season_due(s: &[u8], m: u8, p: u8) -> i64
     season_value(s, p as usize)
 }
 
-fn no_scalars(code: u8, offset: usize) -> Scalars
-    ensures { λ r. ⌜ r ≡ noScalars code offset ⌝ }
+// The season value of a horizon, 0 without season.
+pub fn season_ahead(s: &[u8], m: u8, p: u8, h: u32) -> i64
+    requires { ⌜ Room (now s) m p ⌝ }
+    ensures { λ r. ⌜ r ≡ aheadIn (now (s .entry)) m p h ⌝ }
 {
-    Scalars {
-        code,
-        offset,
-        period: 0,
-        alpha: 0,
-        beta: 0,
-        gamma: 0,
-        phi: 0,
-        level: 0,
-        trend: 0,
-        season: 0,
-        index: 0,
-        count: 0,
+    if (m == 0) | (h == 0) {
+        return 0;
     }
+    let ahead = (p as usize) + (h as usize) - 1;
+    season_value(s, ahead % (m as usize))
 }
 
-fn scalars_at(s: &[u8], offset: usize) -> Scalars
-    requires { ⌜ openCode (now s) ≡ 0 ⌝ }
-    ensures { λ r. ⌜ r ≡ scalarsAt (now (s .entry)) offset ⌝ }
+// The seasonal index.
+pub fn index_at(s: &[u8], m: u8) -> u8
+    requires { ⌜ (m ≤ 48) × (sizeOf m ≤ length (now s)) ⌝ }
+    ensures { λ r. ⌜ r ≡ indexIn (now (s .entry)) m ⌝ }
 {
-    let m = s[2];
-    let at = 10 * (m as usize);
-    let p = s[37 + at];
-    Scalars {
-        code: 0,
-        offset,
-        period: m,
-        alpha: read_u32(s, 3),
-        beta: read_u32(s, 7),
-        gamma: read_u32(s, 11),
-        phi: read_u32(s, 15),
-        level: read_i64(s, 20),
-        trend: read_i64(s, 28),
+    let at = season_at(m as usize);
+    s[at + 1]
+}
+
+// The numbers that a reading moves and is moved by.
+pub fn numbers_at(s: &[u8], m: u8, p: u8) -> Numbers
+    requires { ⌜ Room (now s) m p ⌝ }
+    ensures { λ r. ⌜ r ≡ numbersIn (now (s .entry)) m p ⌝ }
+{
+    Numbers {
+        alpha: read_u32(s, ALPHA_AT),
+        beta: read_u32(s, BETA_AT),
+        gamma: read_u32(s, GAMMA_AT),
+        phi: read_u32(s, PHI_AT),
+        level: read_i64(s, LEVEL_VALUE_AT),
+        trend: read_i64(s, TREND_VALUE_AT),
         season: season_due(s, m, p),
+        count: read_le(s, season_at(m as usize) + 2, 8),
+    }
+}
+
+fn read_cells(s: &[u8], m: usize, cells: &mut [i64; 48])
+    requires { ⌜ (m ≤ 48) × (seasonAt m ≤ length (now s)) × (now cells ≡ replicate 48 (pos 0)) ⌝ }
+    ensures { λ _. ⌜ now (cells .exit) ≡ cellsAt (now (s .entry)) m ⌝ }
+{
+    let mut k = 0;
+    while k < m {
+        let v = season_value(s, k);
+        cells[k] = v;
+        k += 1;
+    }
+}
+
+// The state that a snapshot holds.
+pub fn state_at(s: &[u8]) -> State
+    requires { ⌜ Room (now s) (periodIn (now s)) (indexIn (now s) (periodIn (now s))) ⌝ }
+    ensures { λ r. ⌜ r ≡ decoded (now (s .entry)) ⌝ }
+{
+    let m = s[PERIOD_AT];
+    let p = index_at(s, m);
+    let n = numbers_at(s, m, p);
+    let mut state = State {
+        model: s[MODEL_BYTE_AT],
+        period: m,
+        alpha: n.alpha,
+        beta: n.beta,
+        gamma: n.gamma,
+        phi: n.phi,
+        level: n.level,
+        trend: n.trend,
+        seasonal: [0; 48],
         index: p,
-        count: read_le(s, 38 + at, 8),
-    }
-}
-
-// The numbers of the snapshot at the front of a slice, each checked as reading it would.
-pub fn read_scalars(s: &[u8]) -> Scalars
-    ensures { λ r. ⌜ r ≡ readScalars (now (s .entry)) ⌝ }
-{
-    let found = scan(s);
-    let code = found.code;
-    if code != 0 {
-        return no_scalars(code, found.offset);
-    }
-    scalars_at(s, found.offset)
-}
-
-// Writes the level and the trend.
-pub fn put_level(d: &mut [u8], level: i64, trend: i64)
-    ensures { λ _. ⌜ now (d .exit) ≡ levelPut (now (d .entry)) level trend ⌝ }
-{
-    if 36 <= d.len() {
-        write_level(d, level, trend);
-    }
-}
-
-// Writes the season value of place k.
-pub fn put_season(d: &mut [u8], k: usize, value: i64)
-    ensures { λ _. ⌜ now (d .exit) ≡ seasonPut (now (d .entry)) k value ⌝ }
-{
-    if k < 48 {
-        if 46 + 10 * k <= d.len() {
-            write_season(d, k, value);
-        }
-    }
-}
-
-// Writes the seasonal index and the count, after m places.
-pub fn put_position(d: &mut [u8], m: usize, index: u8, count: u64)
-    ensures { λ _. ⌜ now (d .exit) ≡ positionPut (now (d .entry)) m index count ⌝ }
-{
-    if m <= 48 {
-        if 46 + 10 * m <= d.len() {
-            write_position(d, 36 + 10 * m, index, count);
-        }
-    }
+        count: n.count,
+    };
+    read_cells(s, m as usize, &mut state.seasonal);
+    state
 }

@@ -1,129 +1,39 @@
 // A state to bytes and back: document 01, "Commands". A snapshot is the paper's group.
 mod bytes;
-pub mod fields;
+mod fields;
+pub mod in_place;
+mod layout;
+pub mod promises;
 mod reading;
 mod saving;
 mod table;
 
-use bytes::read_i64;
-use bytes::read_le;
-use bytes::read_u32;
-pub use table::command_length;
-pub use table::is_command;
-pub use table::only_in_snapshot;
-use reading::read_cells;
+use fields::state_at;
+use layout::size_of;
 use reading::scan;
-use saving::write_level;
-use saving::write_model;
-use saving::write_position;
-use saving::write_season;
+use saving::write_snapshot;
 use state::Outcome;
 use state::SHORT_BUFFER;
 use state::State;
 use state::checks::check;
 use state::no_state;
+pub use table::command_length;
+pub use table::is_command;
+pub use table::only_in_snapshot;
 ghost use mathlib.Core.Path.{_≡_};
-ghost use Prim.Native.Nat.{_<_};
-ghost use lib.ListN.{length, drop};
-ghost use Rattle.snapshot.specs.Snapshots.{openCode, decoded, read, restOf, sizeOf, bytesNeeded, save, savedBytes};
+ghost use lib.ListN.{length};
+ghost use Rattle.snapshot.specs.Snapshots.{openCode, read, restOf, bytesNeeded, save, savedBytes};
 
-// What reading a snapshot gives: the state, or the rejection.
+// What reading a snapshot gives: the state, or the rejection and a state that every check refuses.
 pub struct Opened {
     pub outcome: Outcome,
     pub state: State,
 }
 
-// The bytes that a state's snapshot needs.
+// The bytes that a state's snapshot needs, or those of a command.
 pub enum Length {
     Bytes(usize),
     Rejected(u8),
-}
-
-// The length of a snapshot for each season length m from 0 to 48 (1 is never used).
-const SNAPSHOT_LENGTH: [usize; 49] = [
-    46,
-    56,
-    66,
-    76,
-    86,
-    96,
-    106,
-    116,
-    126,
-    136,
-    146,
-    156,
-    166,
-    176,
-    186,
-    196,
-    206,
-    216,
-    226,
-    236,
-    246,
-    256,
-    266,
-    276,
-    286,
-    296,
-    306,
-    316,
-    326,
-    336,
-    346,
-    356,
-    366,
-    376,
-    386,
-    396,
-    406,
-    416,
-    426,
-    436,
-    446,
-    456,
-    466,
-    476,
-    486,
-    496,
-    506,
-    516,
-    526,
-];
-
-fn snapshot_length(m: usize) -> usize
-    requires { ⌜ m < 49 ⌝ }
-    ensures { λ r. ⌜ r ≡ sizeOf m ⌝ }
-{
-    SNAPSHOT_LENGTH[m]
-}
-
-// An accepted one gives the state that it holds.
-fn accepted(s: &[u8]) -> Opened
-    requires { ⌜ openCode (now s) ≡ 0 ⌝ }
-    ensures { λ r. ⌜ r ≡ record { outcome = Outcome.Accepted; state = decoded (now (s .entry)) } ⌝ }
-{
-    let m = s[2] as usize;
-    let at = 10 * m;
-    let mut opened = Opened {
-        outcome: Outcome::Accepted,
-        state: State {
-            model: s[1],
-            period: s[2],
-            alpha: read_u32(s, 3),
-            beta: read_u32(s, 7),
-            gamma: read_u32(s, 11),
-            phi: read_u32(s, 15),
-            level: read_i64(s, 20),
-            trend: read_i64(s, 28),
-            seasonal: [0; 48],
-            index: s[37 + at],
-            count: read_le(s, 38 + at, 8),
-        },
-    };
-    read_cells(s, m, &mut opened.state.seasonal);
-    opened
 }
 
 // The snapshot at the front of a stream.
@@ -132,34 +42,29 @@ pub fn read(stream: &[u8]) -> Opened
 {
     let found = scan(stream);
     let code = found.code;
-    if code == 0 {
-        accepted(stream)
-    } else {
-        Opened {
+    if code != 0 {
+        return Opened {
             outcome: Outcome::Rejected(code),
             state: no_state(),
-        }
+        };
+    }
+    Opened {
+        outcome: Outcome::Accepted,
+        state: state_at(stream),
     }
 }
 
-fn after(stream: &[u8], offset: usize) -> &[u8]
-    ensures { λ r. ⌜ now r ≡ drop offset (now (stream .entry)) ⌝ }
-{
-    let end = stream.len();
-    if end < offset {
-        return &stream[end..];
-    }
-    &stream[offset..]
-}
-
-// The rest of the caller's bytes: after an accepted snapshot what follows it, after a rejection the part that begins with the rejected command.
+// The rest of the caller's bytes after the snapshot at their front, and the rejection or 0.
+// After a rejection it begins with the rejected command, so that the command's offset is the difference of the lengths.
 pub fn rest<'a>(stream: &'a [u8], code: &mut u8) -> &'a [u8]
-    ensures { λ r. ⌜ (now r ≡ restOf (now (stream .entry))) × (now (code .exit) ≡ openCode (now (stream .entry))) ⌝ }
+    ensures part { λ r. ⌜ now r ≡ restOf (now (stream .entry)) ⌝ }
+    ensures rejection { λ _. ⌜ now (code .exit) ≡ openCode (now (stream .entry)) ⌝ }
 {
     let found = scan(stream);
+    let rejection = found.code;
+    *code = rejection;
     let offset = found.offset;
-    *code = found.code;
-    after(stream, offset)
+    &stream[offset..]
 }
 
 // The bytes that saving a state needs, told before anything is written.
@@ -170,7 +75,7 @@ pub fn bytes_needed(s: State) -> Length
     if code != 0 {
         return Length::Rejected(code);
     }
-    Length::Bytes(snapshot_length(s.period as usize))
+    Length::Bytes(size_of(s.period as usize))
 }
 
 // Writes the snapshot of a state at the front of a buffer: the state is checked first, then the room, before anything is written.
@@ -182,19 +87,9 @@ pub fn save(s: State, buffer: &mut [u8]) -> Outcome
     if code != 0 {
         return Outcome::Rejected(code);
     }
-    let m = s.period as usize;
-    let size = snapshot_length(m);
-    if buffer.len() < size {
+    if buffer.len() < size_of(s.period as usize) {
         return Outcome::Rejected(SHORT_BUFFER);
     }
-    write_model(buffer, s.model, s.period, s.alpha, s.beta, s.gamma, s.phi);
-    write_level(buffer, s.level, s.trend);
-    let mut k = 0;
-    while k < m {
-        let v = s.seasonal[k];
-        write_season(buffer, k, v);
-        k += 1;
-    }
-    write_position(buffer, size - 10, s.index, s.count);
+    write_snapshot(buffer, s);
     Outcome::Accepted
 }

@@ -2,6 +2,20 @@
 use super::bytes::read_i64;
 use super::bytes::read_le;
 use super::bytes::read_u32;
+use super::layout::ALPHA_AT;
+use super::layout::BETA_AT;
+use super::layout::GAMMA_AT;
+use super::layout::LEVEL_AT;
+use super::layout::LEVEL_VALUE_AT;
+use super::layout::MODEL_AT;
+use super::layout::MODEL_BYTE_AT;
+use super::layout::PERIOD_AT;
+use super::layout::PHI_AT;
+use super::layout::TREND_VALUE_AT;
+use super::layout::season_at;
+use super::table::POSITION_LENGTH;
+use super::table::command_size;
+use super::table::is_command;
 use state::BAD_MODEL;
 use state::BAD_PARAMETER;
 use state::BAD_PERIOD;
@@ -19,35 +33,26 @@ use state::checks::period_ok;
 use state::checks::trend_ok;
 use state::models::model_ok;
 ghost use mathlib.Core.Path.{_≡_};
-ghost use mathlib.Core.Bool.{true};
-ghost use Prim.Native.Nat.{_+_, _*_, _≤_, _<_};
-ghost use lib.IntN.{pos};
-ghost use lib.ListN.{length, replicate};
-ghost use Rattle.state.specs.Rejections.{unless, _then_, unknown-command, out-of-place, bad-model, bad-period, bad-parameter};
-ghost use Rattle.snapshot.specs.Snapshots.{isCommand, dueCode, modelCode, levelCode, seasonCode, seasonsCode, seasonsRead, positionCode, openCode, openOffset, cellsAt};
+ghost use mathlib.Core.Bool.{true, _&&_};
+ghost use Prim.Native.Nat.{_+_, _≤_, _<_};
+ghost use lib.Dec.{eqb};
+ghost use lib.ListN.{length};
+ghost use Rattle.state.specs.Rejections.{unless, _then_, unknown-command, out-of-place, bad-model, bad-period, bad-parameter, wrong-index, bad-value};
+ghost use Rattle.state.specs.Fixed.{inRange};
+ghost use Rattle.state.specs.Models.{parametersOk};
+ghost use Rattle.state.specs.States.{trendOk, indexOk, countOk};
+ghost use Rattle.snapshot.specs.CommandTable.{isCommand, modelLength, levelLength};
+ghost use Rattle.snapshot.specs.Layout.{levelAt, seasonAt, sizeOf, modelIn, alphaIn, betaIn, gammaIn, phiIn, levelIn, trendIn, placeIn, seasonIn, indexIn, countIn};
+ghost use Rattle.snapshot.specs.Snapshots.{dueCode, modelCode, levelCode, seasonCode, positionCode, scanPosition, scanSeasons, scan};
 
-// What the checks of a stream found: the rejection or 0, and an offset.
+// What the checks of a stream found: the rejection and the offset of its command, or 0 and the offset of what follows.
 pub struct Scanned {
     pub code: u8,
     pub offset: usize,
 }
 
-pub fn is_command(b: u8) -> bool
-    ensures { λ r. ⌜ r ≡ isCommand b ⌝ }
-{
-    (b == 0x10)
-        | (b == 0x11)
-        | (b == 0x12)
-        | (b == 0x13)
-        | (b == 0x20)
-        | (b == 0x21)
-        | (b == 0x30)
-        | (b == 0x31)
-        | (b == 0x40)
-}
-
 // A check: 0 where the test holds, else its rejection.
-fn reject_unless(holds: bool, code: u8) -> u8
+fn unless(holds: bool, code: u8) -> u8
     ensures { λ r. ⌜ r ≡ unless holds code ⌝ }
 {
     if holds { 0 } else { code }
@@ -65,9 +70,9 @@ fn stray(b: u8) -> u8
 }
 
 // The rejection of the command that is due at an offset, before its operands are looked at, or 0.
-fn due(s: &[u8], at: usize, first: u8, size: usize) -> u8
+fn due(s: &[u8], at: usize, first: u8) -> u8
     requires { ⌜ isCommand first ≡ true ⌝ }
-    ensures { λ r. ⌜ r ≡ dueCode (now (s .entry)) at first size ⌝ }
+    ensures { λ r. ⌜ r ≡ dueCode (now (s .entry)) at first ⌝ }
 {
     if s.len() <= at {
         return TRUNCATED;
@@ -77,10 +82,10 @@ fn due(s: &[u8], at: usize, first: u8, size: usize) -> u8
     if b != first {
         return stray(b);
     }
-    reject_unless(size <= left, TRUNCATED)
+    unless(command_size(first) <= left, TRUNCATED)
 }
 
-// The rejection of the operands of command 10, or 0.
+// The first of three checks that fails, or 0.
 fn first_of(model: bool, period: bool, parameters: bool) -> u8
     ensures { λ r. ⌜ r ≡ (unless model bad-model then unless period bad-period then unless parameters bad-parameter) ⌝ }
 {
@@ -95,143 +100,133 @@ fn first_of(model: bool, period: bool, parameters: bool) -> u8
     }
 }
 
-// Command 10.
+fn parameters_at(s: &[u8]) -> bool
+    requires { ⌜ modelLength ≤ length (now s) ⌝ }
+    ensures { λ r. ⌜ r ≡ parametersOk (modelIn (now (s .entry))) (alphaIn (now (s .entry))) (betaIn (now (s .entry))) (gammaIn (now (s .entry))) (phiIn (now (s .entry))) ⌝ }
+{
+    parameters_ok(
+        s[MODEL_BYTE_AT],
+        read_u32(s, ALPHA_AT),
+        read_u32(s, BETA_AT),
+        read_u32(s, GAMMA_AT),
+        read_u32(s, PHI_AT),
+    )
+}
+
 fn model_code(s: &[u8]) -> u8
     ensures { λ r. ⌜ r ≡ modelCode (now (s .entry)) ⌝ }
 {
-    let code = due(s, 0, 0x10, 19);
+    let code = due(s, MODEL_AT, 0x10);
     if code != 0 {
         return code;
     }
-    let model = s[1];
+    let model = s[MODEL_BYTE_AT];
     first_of(
         model_ok(model),
-        period_ok(model, s[2]),
-        parameters_ok(
-            model,
-            read_u32(s, 3),
-            read_u32(s, 7),
-            read_u32(s, 11),
-            read_u32(s, 15),
-        ),
+        period_ok(model, s[PERIOD_AT]),
+        parameters_at(s),
     )
 }
 
-// Command 11.
+fn values_at(s: &[u8]) -> bool
+    requires { ⌜ levelAt + levelLength ≤ length (now s) ⌝ }
+    ensures { λ r. ⌜ r ≡ (inRange (levelIn (now (s .entry))) && trendOk (modelIn (now (s .entry))) (trendIn (now (s .entry)))) ⌝ }
+{
+    in_range(read_i64(s, LEVEL_VALUE_AT)) & trend_ok(s[MODEL_BYTE_AT], read_i64(s, TREND_VALUE_AT))
+}
+
 fn level_code(s: &[u8]) -> u8
     ensures { λ r. ⌜ r ≡ levelCode (now (s .entry)) ⌝ }
 {
-    let code = due(s, 19, 0x11, 17);
+    let code = due(s, LEVEL_AT, 0x11);
     if code != 0 {
         return code;
     }
-    reject_unless(
-        in_range(read_i64(s, 20)) & trend_ok(s[1], read_i64(s, 28)),
-        BAD_VALUE,
-    )
+    unless(values_at(s), BAD_VALUE)
 }
 
-// Command 12 for place k.
 fn season_code(s: &[u8], k: usize) -> u8
     requires { ⌜ k < 48 ⌝ }
     ensures { λ r. ⌜ r ≡ seasonCode (now (s .entry)) k ⌝ }
 {
-    let at = 10 * k;
-    let code = due(s, 36 + at, 0x12, 10);
+    let at = season_at(k);
+    let code = due(s, at, 0x12);
     if code != 0 {
         return code;
     }
-    if s[37 + at] as usize != k {
+    if s[at + 1] as usize != k {
         return WRONG_INDEX;
     }
-    reject_unless(in_range(read_i64(s, 38 + at)), BAD_VALUE)
+    unless(in_range(read_i64(s, at + 2)), BAD_VALUE)
 }
 
-// Commands 12 for the places 0 to m − 1 rising, and the offset of the rejected one or of what follows.
-fn scan_seasons(s: &[u8], m: usize) -> Scanned
-    requires { ⌜ m ≤ 48 ⌝ }
-    ensures code { λ r. ⌜ r .code ≡ seasonsCode (now (s .entry)) m ⌝ }
-    ensures offset { λ r. ⌜ r .offset ≡ 36 + 10 * seasonsRead (now (s .entry)) m ⌝ }
-{
-    let mut k = 0;
-    while k < m {
-        let code = season_code(s, k);
-        if code != 0 {
-            return Scanned {
-                code,
-                offset: 36 + 10 * k,
-            };
-        }
-        k += 1;
-    }
-    Scanned {
-        code: 0,
-        offset: 36 + 10 * k,
-    }
-}
-
-// Command 13, after m places.
-fn position_code(s: &[u8], m: u8) -> u8
+fn position_code(s: &[u8], at: usize, m: u8) -> u8
+    requires { ⌜ (m ≤ 48) × (at ≡ seasonAt m) ⌝ }
     ensures { λ r. ⌜ r ≡ positionCode (now (s .entry)) m ⌝ }
 {
-    let at = 10 * (m as usize);
-    let code = due(s, 36 + at, 0x13, 10);
+    let code = due(s, at, 0x13);
     if code != 0 {
         return code;
     }
-    reject_unless(
-        index_ok(m, s[37 + at]) & count_ok(read_le(s, 38 + at, 8)),
+    unless(
+        index_ok(m, s[at + 1]) & count_ok(read_le(s, at + 2, 8)),
         BAD_POSITION,
     )
 }
 
-// A whole snapshot: its rejection or 0, and the offset of the rejected command or of what follows.
+// The command 13, after m places.
+fn scan_position(s: &[u8], m: u8) -> Scanned
+    requires { ⌜ m ≤ 48 ⌝ }
+    ensures { λ r. ⌜ r ≡ scanPosition (now (s .entry)) m ⌝ }
+{
+    let at = season_at(m as usize);
+    let code = position_code(s, at, m);
+    if code != 0 {
+        return Scanned { code, offset: at };
+    }
+    Scanned {
+        code: 0,
+        offset: at + POSITION_LENGTH,
+    }
+}
+
+// The commands 12 for the places 0 to m − 1 rising, and then 13.
+fn scan_seasons(s: &[u8], m: u8) -> Scanned
+    requires { ⌜ m ≤ 48 ⌝ }
+    ensures { λ r. ⌜ r ≡ scanSeasons (now (s .entry)) 0 m (scanPosition (now (s .entry)) m) ⌝ }
+{
+    let n = m as usize;
+    let mut k = 0;
+    while k < n {
+        let code = season_code(s, k);
+        if code != 0 {
+            return Scanned {
+                code,
+                offset: season_at(k),
+            };
+        }
+        k += 1;
+    }
+    scan_position(s, m)
+}
+
+// A whole snapshot.
 pub fn scan(s: &[u8]) -> Scanned
-    ensures code { λ r. ⌜ r .code ≡ openCode (now (s .entry)) ⌝ }
-    ensures offset { λ r. ⌜ r .offset ≡ openOffset (now (s .entry)) ⌝ }
+    ensures { λ r. ⌜ r ≡ scan (now (s .entry)) ⌝ }
 {
     let model = model_code(s);
     if model != 0 {
         return Scanned {
             code: model,
-            offset: 0,
+            offset: MODEL_AT,
         };
     }
     let level = level_code(s);
     if level != 0 {
         return Scanned {
             code: level,
-            offset: 19,
+            offset: LEVEL_AT,
         };
     }
-    let m = s[2];
-    let seasons = scan_seasons(s, m as usize);
-    if seasons.code != 0 {
-        return seasons;
-    }
-    let at = 10 * (m as usize);
-    let position = position_code(s, m);
-    if position != 0 {
-        return Scanned {
-            code: position,
-            offset: 36 + at,
-        };
-    }
-    Scanned {
-        code: 0,
-        offset: 46 + at,
-    }
-}
-
-// The season cells of an accepted snapshot.
-pub fn read_cells(s: &[u8], m: usize, cells: &mut [i64; 48])
-    requires { ⌜ (m ≤ 48) × (36 + 10 * m ≤ length (now s)) × (now cells ≡ replicate 48 (pos 0)) ⌝ }
-    ensures { λ _. ⌜ now (cells .exit) ≡ cellsAt (now (s .entry)) m ⌝ }
-{
-    let mut k = 0;
-    while k < m {
-        let v = read_i64(s, 38 + 10 * k);
-        cells[k] = v;
-        k += 1;
-    }
+    scan_seasons(s, s[PERIOD_AT])
 }

@@ -2,16 +2,27 @@
 use super::bytes::write_byte;
 use super::bytes::write_i64;
 use super::bytes::write_le;
+use super::layout::ALPHA_AT;
+use super::layout::BETA_AT;
+use super::layout::GAMMA_AT;
+use super::layout::LEVEL_AT;
+use super::layout::LEVEL_VALUE_AT;
+use super::layout::MODEL_AT;
+use super::layout::MODEL_BYTE_AT;
+use super::layout::PERIOD_AT;
+use super::layout::PHI_AT;
+use super::layout::TREND_VALUE_AT;
+use super::layout::season_at;
+use state::State;
 use state::models::season_of;
 use state::models::trend_of;
 ghost use mathlib.Core.Path.{_≡_};
-ghost use mathlib.Core.List.{_∷_, _++_};
-ghost use Prim.Native.Nat.{_+_, _*_, _≤_, _<_};
+ghost use Prim.Native.Nat.{_+_, _≤_, _<_};
 ghost use lib.ListN.{length};
 ghost use lib.Seq.{sets};
-ghost use Rattle.state.specs.Models.{trendOf, seasonOf};
-ghost use Rattle.snapshot.specs.Bytes.{toBytes, signedBytes};
-ghost use Rattle.snapshot.specs.Snapshots.{modelByte, seasonBytes};
+ghost use Rattle.snapshot.specs.CommandTable.{modelLength, levelLength, seasonLength, positionLength};
+ghost use Rattle.snapshot.specs.Layout.{modelAt, levelAt, seasonAt, sizeOf, modelByte, parameterBytes, modelBytes, levelBytes, seasonBytes, seasonsBytes, positionBytes};
+ghost use Rattle.snapshot.specs.Snapshots.{encoded};
 
 // The model byte put together from its parts.
 fn model_byte(trend: u8, season: u8) -> u8
@@ -21,47 +32,78 @@ fn model_byte(trend: u8, season: u8) -> u8
     trend | (season << 2)
 }
 
-// Command 10.
-pub fn write_model(d: &mut [u8], model: u8, period: u8, alpha: u32, beta: u32, gamma: u32, phi: u32)
-    requires { ⌜ 19 ≤ length (now d) ⌝ }
-    ensures { λ _. ⌜ now (d .exit) ≡ sets (now (d .entry)) 0 (0x10 ∷ modelByte (trendOf model) (seasonOf model) ∷ period ∷ (toBytes 4 alpha ++ (toBytes 4 beta ++ (toBytes 4 gamma ++ toBytes 4 phi)))) ⌝ }
+fn write_parameters(d: &mut [u8], alpha: u32, beta: u32, gamma: u32, phi: u32)
+    requires { ⌜ modelLength ≤ length (now d) ⌝ }
+    ensures { λ _. ⌜ now (d .exit) ≡ sets (now (d .entry)) (modelAt + 3) (parameterBytes alpha beta gamma phi) ⌝ }
 {
-    write_byte(d, 0, 0x10);
-    write_byte(d, 1, model_byte(trend_of(model), season_of(model)));
-    write_byte(d, 2, period);
-    write_le(d, 3, 4, alpha as u64);
-    write_le(d, 7, 4, beta as u64);
-    write_le(d, 11, 4, gamma as u64);
-    write_le(d, 15, 4, phi as u64);
+    write_le(d, ALPHA_AT, 4, alpha as u64);
+    write_le(d, BETA_AT, 4, beta as u64);
+    write_le(d, GAMMA_AT, 4, gamma as u64);
+    write_le(d, PHI_AT, 4, phi as u64);
 }
 
-// Command 11.
+fn write_model(d: &mut [u8], model: u8, period: u8, alpha: u32, beta: u32, gamma: u32, phi: u32)
+    requires { ⌜ modelLength ≤ length (now d) ⌝ }
+    ensures { λ _. ⌜ now (d .exit) ≡ sets (now (d .entry)) modelAt (modelBytes model period alpha beta gamma phi) ⌝ }
+{
+    let byte = model_byte(trend_of(model), season_of(model));
+    write_byte(d, MODEL_AT, 0x10);
+    write_byte(d, MODEL_BYTE_AT, byte);
+    write_byte(d, PERIOD_AT, period);
+    write_parameters(d, alpha, beta, gamma, phi);
+}
+
 pub fn write_level(d: &mut [u8], level: i64, trend: i64)
-    requires { ⌜ 36 ≤ length (now d) ⌝ }
-    ensures { λ _. ⌜ now (d .exit) ≡ sets (now (d .entry)) 19 (0x11 ∷ (signedBytes level ++ signedBytes trend)) ⌝ }
+    requires { ⌜ levelAt + levelLength ≤ length (now d) ⌝ }
+    ensures { λ _. ⌜ now (d .exit) ≡ sets (now (d .entry)) levelAt (levelBytes level trend) ⌝ }
 {
-    write_byte(d, 19, 0x11);
-    write_i64(d, 20, level);
-    write_i64(d, 28, trend);
+    write_byte(d, LEVEL_AT, 0x11);
+    write_i64(d, LEVEL_VALUE_AT, level);
+    write_i64(d, TREND_VALUE_AT, trend);
 }
 
-// Command 12 for place k.
+// The command 12 of index k.
 pub fn write_season(d: &mut [u8], k: usize, v: i64)
-    requires { ⌜ (k < 48) × (46 + 10 * k ≤ length (now d)) ⌝ }
-    ensures { λ _. ⌜ now (d .exit) ≡ sets (now (d .entry)) (36 + 10 * k) (seasonBytes k v) ⌝ }
+    requires { ⌜ (k ≤ 48) × (seasonAt k + seasonLength ≤ length (now d)) ⌝ }
+    ensures { λ _. ⌜ now (d .exit) ≡ sets (now (d .entry)) (seasonAt k) (seasonBytes k v) ⌝ }
 {
-    let at = 10 * k;
-    write_byte(d, 36 + at, 0x12);
-    write_byte(d, 37 + at, k as u8);
-    write_i64(d, 38 + at, v);
+    let at = season_at(k);
+    write_byte(d, at, 0x12);
+    write_byte(d, at + 1, k as u8);
+    write_i64(d, at + 2, v);
 }
 
-// Command 13.
-pub fn write_position(d: &mut [u8], at: usize, index: u8, count: u64)
-    requires { ⌜ at + 10 ≤ length (now d) ⌝ }
-    ensures { λ _. ⌜ now (d .exit) ≡ sets (now (d .entry)) at (0x13 ∷ index ∷ toBytes 8 count) ⌝ }
+// The commands 12 for the places 0 to m − 1 rising.
+fn write_seasons(d: &mut [u8], m: usize, cells: &[i64; 48])
+    requires { ⌜ (m ≤ 48) × (seasonAt m ≤ length (now d)) ⌝ }
+    ensures { λ _. ⌜ now (d .exit) ≡ sets (now (d .entry)) (seasonAt 0) (seasonsBytes (now (cells .entry)) m) ⌝ }
 {
+    let mut k = 0;
+    while k < m {
+        let v = cells[k];
+        write_season(d, k, v);
+        k += 1;
+    }
+}
+
+// The command 13, after m places.
+pub fn write_position(d: &mut [u8], m: u8, index: u8, count: u64)
+    requires { ⌜ (m ≤ 48) × (sizeOf m ≤ length (now d)) ⌝ }
+    ensures { λ _. ⌜ now (d .exit) ≡ sets (now (d .entry)) (seasonAt m) (positionBytes index count) ⌝ }
+{
+    let at = season_at(m as usize);
     write_byte(d, at, 0x13);
     write_byte(d, at + 1, index);
     write_le(d, at + 2, 8, count);
+}
+
+// The snapshot of a state.
+pub fn write_snapshot(d: &mut [u8], s: State)
+    requires { ⌜ (s .period ≤ 48) × (sizeOf (s .period) ≤ length (now d)) ⌝ }
+    ensures { λ _. ⌜ now (d .exit) ≡ sets (now (d .entry)) modelAt (encoded s) ⌝ }
+{
+    write_model(d, s.model, s.period, s.alpha, s.beta, s.gamma, s.phi);
+    write_level(d, s.level, s.trend);
+    write_seasons(d, s.period as usize, &s.seasonal);
+    write_position(d, s.period, s.index, s.count);
 }

@@ -1,6 +1,6 @@
 -- What a state has that the checks let pass, and that what has it passes.
 use Prim.Native.Nat.{ℕ, _<_, _≤_}
-use mathlib.Core.Path.{_≡_}
+use mathlib.Core.Path.{_≡_, refl}
 use mathlib.Core.Bool.{Bool, true, false, cond, _&&_}
 use native.Mathlib.Omega.{arith}
 use lib.Dec.{eqb, ltb, leb}
@@ -14,7 +14,7 @@ use Rattle.integers.proofs.Bounds.{within-zero}
 use Rattle.state.specs.Rejections.{_then_}
 use Rattle.state.specs.Fixed.{inRange, isReading, isZero, maxCount}
 use Rattle.state.specs.Models.{trendOf, hasTrend, hasSeason, validModel, periodOk, gainOk, dampingOk}
-use Rattle.state.specs.States.{trendOk, cellOk, seasonalOk, indexOk, countOk, check}
+use Rattle.state.specs.States.{trendOk, cellOk, seasonalOk, indexOk, countOk, check, noState}
 use Rattle.state.specs.declared.State.{State}
 use Rattle.state.proofs.Tests.{both, unless-zero, then-zero, zero-is, allBelow-at}
 
@@ -173,3 +173,8 @@ with-season s ok h =
     let p = passed s ok in
     let m : 2 ≤ s .period = leb-true 2 (s .period) (both (leb 2 (s .period)) (leb (s .period) 48) (rw h at (p .period)) .0) in
     record { least = m; index = ltb-true (s .index) (s .period) (rw (ne-eqb (s .period) 0 (omega arith)) at (p .index)) }
+
+-- ---- what stands in the place of a state after a rejection is refused by its model byte
+pub no-state : check noState ≡ 5
+unfolding check noState
+no-state = refl

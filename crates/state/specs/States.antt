@@ -44,7 +44,7 @@ check s =
     then unless (inRange (s .level) && trendOk (s .model) (s .trend) && seasonalOk (s .period) (s .seasonal)) bad-value
     then unless (indexOk (s .period) (s .index) && countOk (s .count)) bad-position
 
--- no state: what stands in the place of one after a rejection. Every check refuses it, by its model byte
+-- no state: what stands in the place of one after a rejection. No model has this byte, so every check refuses it
 unfoldable pub noState : State
 noState =
     record {

@@ -69,7 +69,7 @@ pub enum Answer {
     Rejected(u8),
 }
 
-// What stands in the place of a state after a rejection; every check refuses it.
+// What stands in the place of a state after a rejection: every check refuses it, so that no caller goes on with it unnoticed.
 pub fn no_state() -> State
     ensures { λ r. ⌜ r ≡ noState ⌝ }
 {

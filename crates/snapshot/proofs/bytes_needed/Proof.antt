@@ -15,17 +15,16 @@ returns : tie.Need-returns
 unfolding bytesNeeded
 returns c = rw (← (c .before .check .ensures), ne-eqb _ _ (c .if1 .taken))
 
-cast-snapshot-length : tie.Need-cast-snapshot-length
-cast-snapshot-length c = search needs
+cast-size-of : tie.Need-cast-size-of
+cast-size-of c = search needs
 
-snapshot-length-requires : tie.Need-snapshot-length-requires
-snapshot-length-requires c κs = omega (arith, bounded _ (sym (c .before .before .check .ensures) ∙ c .before .if1 .left) .period)
+size-of-requires : tie.Need-size-of-requires
+size-of-requires c κs = omega (arith, bounded _ (sym (c .before .before .check .ensures) ∙ c .before .if1 .left) .period)
 
 returns-2 : tie.Need-returns-2
 unfolding bytesNeeded
-returns-2 c = rw (← (c .before .before .before .check .ensures), eq-eqb _ _ (c .before .before .if1 .left), c .snapshot-length .ensures)
+returns-2 c = rw (← (c .before .before .before .check .ensures), eq-eqb _ _ (c .before .before .if1 .left), c .size-of .ensures)
 
 pub bytes-needed-spec : {M : Type 1} → statement M
 bytes-needed-spec =
-    tie.close
-    (tie.spec check-requires returns cast-snapshot-length snapshot-length-requires returns-2)
+    tie.close (tie.spec check-requires returns cast-size-of size-of-requires returns-2)

@@ -1,7 +1,9 @@
 -- `snapshot::read` meets its contract.
-use mathlib.Core.Path.{sym, _∙_}
+use mathlib.Core.Path.{sym, ap, _∙_}
 use borrow.Author.Tests.{eq-eqb, ne-eqb}
 use Rattle.snapshot.specs.Snapshots.{read}
+use Rattle.snapshot.specs.declared.reading.Scanned.{Scanned}
+use Rattle.snapshot.proofs.Accepting.{accepted-room}
 use borrow.Author.Needs.{needs}
 use Rattle.snapshot.proofs.read.Statement.{statement}
 use Rattle.snapshot.proofs.read.Tie as tie
@@ -9,20 +11,24 @@ use Rattle.snapshot.proofs.read.Tie as tie
 scan-requires : tie.Need-scan-requires
 scan-requires c κs = search needs
 
-accepted-requires : tie.Need-accepted-requires
-accepted-requires c κs = sym (c .before .scan .ensures .0) ∙ c .if1 .taken
-
 no-state-requires : tie.Need-no-state-requires
 no-state-requires c κs = search needs
 
 returns : tie.Need-returns
 unfolding read
-returns c = rw (← (c .before .before .scan .ensures .0), eq-eqb _ _ (c .before .if1 .taken)) (c .accepted .ensures)
+returns c =
+    let e = ap (λ (r : Scanned). r .code) (c .before .before .scan .ensures) in
+    rw (c .no-state .ensures, ← e, ne-eqb _ _ (c .before .if1 .taken))
+
+state-at-requires : tie.Need-state-at-requires
+state-at-requires c κs = accepted-room _ (sym (ap (λ (r : Scanned). r .code) (c .before .scan .ensures)) ∙ c .if1 .left)
 
 returns-2 : tie.Need-returns-2
 unfolding read
-returns-2 c = rw (← (c .before .before .scan .ensures .0), ne-eqb _ _ (c .before .if1 .left), ← (c .no-state .ensures))
+returns-2 c =
+    let e = ap (λ (r : Scanned). r .code) (c .before .before .scan .ensures) in
+    rw (c .state-at .ensures, ← e, eq-eqb _ _ (c .before .if1 .left))
 
 pub read-spec : {M : Type 1} → statement M
 read-spec =
-    tie.close (tie.spec scan-requires accepted-requires no-state-requires returns returns-2)
+    tie.close (tie.spec scan-requires no-state-requires returns state-at-requires returns-2)

@@ -1,18 +1,32 @@
 -- `snapshot::rest` meets its contract.
-use borrow.Author.Needs.{needs}
+use mathlib.Core.Path.{ap, _∙_}
+use native.Mathlib.Omega.{arith}
 use Rattle.snapshot.specs.Snapshots.{restOf}
+use Rattle.snapshot.specs.declared.reading.Scanned.{Scanned}
+use Rattle.snapshot.proofs.ByteLaws.{rest}
+use Rattle.snapshot.proofs.OffsetLaws.{offsets}
+use borrow.Author.Needs.{needs}
 use Rattle.snapshot.proofs.rest.Statement.{statement}
 use Rattle.snapshot.proofs.rest.Tie as tie
 
 scan-requires : tie.Need-scan-requires
 scan-requires c κs = search needs
 
-after-requires : tie.Need-after-requires
-after-requires c κs = search needs
+sub-result : tie.Need-sub-result
+sub-result c = omega (arith, ap (λ (r : Scanned). r .offset) (c .scan .ensures), offsets (c .before .before .args .stream .now) .within)
+
+part-result-start : tie.Need-part-result-start
+part-result-start c = sub-result c
+
+part-result-end : tie.Need-part-result-end
+part-result-end c = search needs
 
 returns : tie.Need-returns
 unfolding restOf
-returns c = (rw (← (c .before .scan .ensures .1)) (c .after .ensures), c .before .scan .ensures .0)
+returns c =
+    let s = c .before .before .before .args .stream .now in
+    let e = c .before .scan .ensures in
+    (rw (← (ap (λ (r : Scanned). r .offset) e)) (rest s (c .before .scan .result .offset)), ap (λ (r : Scanned). r .code) e)
 
 pub rest-spec : {M : Type 1} → statement M
-rest-spec = tie.close (tie.spec scan-requires after-requires returns)
+rest-spec = tie.close (tie.spec scan-requires sub-result part-result-start part-result-end returns)

@@ -1,5 +1,6 @@
-use mir.Syntax.{w64}
+-- `snapshot::fields::season_due` meets its contract.
 use borrow.Author.Tests.{eq-eqb, ne-eqb}
+use mir.Syntax.{w64}
 use Rattle.integers.proofs.Difference.{back}
 use borrow.Author.Needs.{needs}
 use Rattle.snapshot.proofs.fields.season_due.Statement.{statement}

@@ -23,12 +23,17 @@ returns-2 : tie.Need-returns-2
 unfolding dueCode
 returns-2 c = rw (lt-ltb _ _ (c .before .before .before .if1 .left), ne-eqb _ _ (c .before .if2 .taken)) (c .stray .ensures)
 
-reject-unless-requires : tie.Need-reject-unless-requires
-reject-unless-requires c κs = search needs
+command-size-requires : tie.Need-command-size-requires
+command-size-requires c κs = search needs
+
+unless-requires : tie.Need-unless-requires
+unless-requires c κs = search needs
 
 returns-3 : tie.Need-returns-3
 unfolding dueCode
-returns-3 c = rw (lt-ltb _ _ (c .before .before .before .if1 .left), c .before .if2 .left, c .before .before .before .before .before .pre, eq-eqb _ _ refl) (c .reject-unless .ensures)
+returns-3 c =
+    let f = c .before .before in
+    rw (lt-ltb _ _ (f .before .before .if1 .left), f .if2 .left, f .before .before .before .before .pre, eq-eqb _ _ refl, ← (c .before .command-size .ensures)) (c .unless .ensures)
 
 pub due-spec : {M : Type 1} → statement M
 due-spec =
@@ -39,5 +44,6 @@ due-spec =
     sub-left
     stray-requires
     returns-2
-    reject-unless-requires
+    command-size-requires
+    unless-requires
     returns-3)

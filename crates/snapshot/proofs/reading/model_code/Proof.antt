@@ -1,21 +1,24 @@
 -- `snapshot::reading::model_code` meets its contract: each return goes by the tests that led there.
-use Prim.Native.Nat.{_+_, _≤_}
+use Prim.Native.Nat.{_≤_}
 use mathlib.Core.Path.{refl, sym, _∙_}
 use native.Mathlib.Omega.{arith}
 use lib.ListN.{length}
 use borrow.Author.Tests.{eq-eqb, ne-eqb}
-use Rattle.snapshot.specs.Snapshots.{isCommand, modelCode}
+use Rattle.snapshot.specs.CommandTable.{isCommand, commandSize, modelLength}
+use Rattle.snapshot.specs.Layout.{modelAt}
+use Rattle.snapshot.specs.Snapshots.{modelCode}
 use Rattle.snapshot.proofs.Accepting.{due}
 use borrow.Author.Needs.{needs}
 use Rattle.snapshot.proofs.reading.model_code.Statement.{statement}
 use Rattle.snapshot.proofs.reading.model_code.Tie as tie
 
 -- the command is there, whole
-room : (c : tie.Else1) → 0 + 19 ≤ length (c .before .before .before .args .s .now)
-room c = due _ 0 0x10 19 (sym (c .before .due .ensures) ∙ c .if1 .left) .room
+room : (c : tie.Else1) → modelLength ≤ length (c .before .before .before .args .s .now)
+unfolding commandSize
+room c = due _ modelAt 0x10 (sym (c .before .due .ensures) ∙ c .if1 .left) .room
 
 due-requires : tie.Need-due-requires
-unfolding isCommand
+unfolding isCommand commandSize
 due-requires c κs = refl
 
 returns : tie.Need-returns
@@ -34,20 +37,8 @@ shared-slice-read-period-ok c = omega (arith, room (c .before .before .before))
 period-ok-requires : tie.Need-period-ok-requires
 period-ok-requires c κs = search needs
 
-read-u32-requires : tie.Need-read-u32-requires
-read-u32-requires c κs = omega (arith, room (c .before .before .before .before))
-
-read-u32-requires-2 : tie.Need-read-u32-requires-2
-read-u32-requires-2 c κs = omega (arith, room (c .before .before .before .before .before))
-
-read-u32-requires-3 : tie.Need-read-u32-requires-3
-read-u32-requires-3 c κs = omega (arith, room (c .before .before .before .before .before .before))
-
-read-u32-requires-4 : tie.Need-read-u32-requires-4
-read-u32-requires-4 c κs = omega (arith, room (c .before .before .before .before .before .before .before))
-
-parameters-ok-requires : tie.Need-parameters-ok-requires
-parameters-ok-requires c κs = search needs
+parameters-at-requires : tie.Need-parameters-at-requires
+parameters-at-requires c κs = room (c .before .before .before .before)
 
 first-of-requires : tie.Need-first-of-requires
 first-of-requires c κs = search needs
@@ -55,8 +46,9 @@ first-of-requires c κs = search needs
 returns-2 : tie.Need-returns-2
 unfolding modelCode
 returns-2 c =
-    rw (← (c .before .before .before .before .before .before .before .before .before .before .before .due .ensures), eq-eqb _ _ (c .before .before .before .before .before .before .before .before .before .before .if1 .left), ← (c .before .before .before .before .before .before .before .before .model-ok .ensures), ← (c .before .before .before .before .before .before .period-ok .ensures), ← (c .before .before .before .before .before .read-u32 .ensures), ← (c .before .before .before .before .read-u322 .ensures), ← (c .before .before .before .read-u323 .ensures), ← (c .before .before .read-u324 .ensures), ← (c .before .parameters-ok .ensures))
-    (c .first-of .ensures)
+    let m = c .before .before .before .before in
+    let i = m .before .before in
+    rw (← (i .before .due .ensures), eq-eqb _ _ (i .if1 .left), ← (m .model-ok .ensures), ← (c .before .before .period-ok .ensures), ← (c .before .parameters-at .ensures)) (c .first-of .ensures)
 
 pub model-code-spec : {M : Type 1} → statement M
 model-code-spec =
@@ -68,10 +60,6 @@ model-code-spec =
     model-ok-requires
     shared-slice-read-period-ok
     period-ok-requires
-    read-u32-requires
-    read-u32-requires-2
-    read-u32-requires-3
-    read-u32-requires-4
-    parameters-ok-requires
+    parameters-at-requires
     first-of-requires
     returns-2)

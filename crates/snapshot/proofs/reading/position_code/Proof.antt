@@ -1,33 +1,29 @@
 -- `snapshot::reading::position_code` meets its contract: each return goes by the tests that led there.
-use Prim.Native.Nat.{_+_, _*_, _≤_}
+use Prim.Native.Nat.{_+_, _≤_}
 use mathlib.Core.Path.{refl, sym, _∙_}
 use native.Mathlib.Omega.{arith}
 use lib.Dec.{lit≤}
 use lib.ListN.{length}
 use borrow.Author.Tests.{eq-eqb, ne-eqb}
-use Rattle.snapshot.specs.Snapshots.{isCommand, positionCode}
+use Rattle.snapshot.specs.CommandTable.{isCommand, commandSize, positionLength}
+use Rattle.snapshot.specs.Snapshots.{positionCode}
 use Rattle.snapshot.proofs.Accepting.{due}
 use borrow.Author.Needs.{needs}
 use Rattle.snapshot.proofs.reading.position_code.Statement.{statement}
 use Rattle.snapshot.proofs.reading.position_code.Tie as tie
 
 -- the command is there, whole
-room : (c : tie.Else1) → 36 + 10 * c .before .before .before .args .m + 10 ≤ length (c .before .before .before .args .s .now)
-room c = due _ _ 0x13 10 (sym (c .before .due .ensures) ∙ c .if1 .left) .room
-
-mul-at : tie.Need-mul-at
-mul-at c = search needs
-
-add-due : tie.Need-add-due
-add-due c = search needs
+room : (c : tie.Else1) → c .before .before .before .args .at + positionLength ≤ length (c .before .before .before .args .s .now)
+unfolding commandSize
+room c = due _ _ 0x13 (sym (c .before .due .ensures) ∙ c .if1 .left) .room
 
 due-requires : tie.Need-due-requires
-unfolding isCommand
+unfolding isCommand commandSize
 due-requires c κs = refl
 
 returns : tie.Need-returns
 unfolding positionCode
-returns c = rw (← (c .before .due .ensures), ne-eqb _ _ (c .if1 .taken))
+returns c = rw (← (c .before .before .before .pre .1), ← (c .before .due .ensures), ne-eqb _ _ (c .if1 .taken))
 
 add-index-ok : tie.Need-add-index-ok
 add-index-ok c = search needs
@@ -47,21 +43,20 @@ read-le-requires c κs = (lit≤ tt, omega (arith, room (c .before .before)))
 count-ok-requires : tie.Need-count-ok-requires
 count-ok-requires c κs = search needs
 
-reject-unless-requires : tie.Need-reject-unless-requires
-reject-unless-requires c κs = search needs
+unless-requires : tie.Need-unless-requires
+unless-requires c κs = search needs
 
 returns-2 : tie.Need-returns-2
 unfolding positionCode
 returns-2 c =
-    rw (← (c .before .before .before .before .before .before .due .ensures), eq-eqb _ _ (c .before .before .before .before .before .if1 .left), ← (c .before .before .read-le .ensures .0), ← (c .before .before .before .index-ok .ensures), ← (c .before .count-ok .ensures))
-    (c .reject-unless .ensures)
+    let r = c .before .before in
+    let i = r .before .before .before in
+    rw (← (i .before .before .before .pre .1), ← (i .before .due .ensures), eq-eqb _ _ (i .if1 .left), ← (r .read-le .ensures .0), ← (r .before .index-ok .ensures), ← (c .before .count-ok .ensures)) (c .unless .ensures)
 
 pub position-code-spec : {M : Type 1} → statement M
 position-code-spec =
     tie.close
     (tie.spec
-    mul-at
-    add-due
     due-requires
     returns
     add-index-ok
@@ -70,5 +65,5 @@ position-code-spec =
     add-read-le
     read-le-requires
     count-ok-requires
-    reject-unless-requires
+    unless-requires
     returns-2)

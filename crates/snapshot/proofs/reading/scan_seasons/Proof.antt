@@ -1,36 +1,48 @@
--- `snapshot::reading::scan_seasons` meets its contract: the places before k were not rejected.
-use Prim.Native.Nat.{ℕ, _+_, _-_, _*_, _≤_, zero-le}
-use mathlib.Core.Path.{_≡_, refl, sym, ap, _∙_}
+-- `snapshot::reading::scan_seasons` meets its contract: what is left to scan gives the whole.
+use Prim.Native.Nat.{ℕ, suc, _+_, _-_, _≤_, zero-le}
+use mathlib.Core.Path.{_≡_, sym, _∙_}
+use mathlib.Core.List.{List}
+use native.Mathlib.Nat.{sub-zero}
+use native.Mathlib.Numerals.{add-one}
 use native.Mathlib.Omega.{arith}
-use Rattle.snapshot.specs.Snapshots.{seasonsCode}
-use Rattle.snapshot.proofs.Accepting.{season-next, seasons-all, season-stops}
+use borrow.Author.Tests.{ne-eqb}
+use Rattle.snapshot.specs.Layout.{seasonAt}
+use Rattle.snapshot.specs.Snapshots.{seasonCode, scanPosition, scanSeasons}
+use Rattle.snapshot.specs.declared.reading.Scanned.{Scanned}
 use Rattle.snapshot.proofs.reading.scan_seasons.Statement.{statement}
 use Rattle.snapshot.proofs.reading.scan_seasons.Tie as tie
 
+-- a turn: one place more, or the rejected one
+passes : (s : List ℕ) (k n : ℕ) (r : Scanned) → seasonCode s k ≡ 0 → scanSeasons s k (suc n) r ≡ scanSeasons s (k + 1) n r
+unfolding scanSeasons
+passes s k n r z = rw (z, add-one)
+
+stops : (s : List ℕ) (k n : ℕ) (r : Scanned) → (seasonCode s k ≡ 0 → ⊥) → scanSeasons s k (suc n) r ≡ record { code = seasonCode s k; offset = seasonAt k }
+unfolding scanSeasons
+stops s k n r z = rw (ne-eqb (seasonCode s k) 0 z)
+
 abbrev Inv-loop : tie.InvT-loop
-Inv-loop s m k₀ k = (k ≤ m) × (seasonsCode s k ≡ 0)
+Inv-loop s m n k₀ k = (k ≤ m) × (scanSeasons s k (m - k) (scanPosition s m) ≡ scanSeasons s 0 m (scanPosition s m))
 
 abbrev μ-loop : tie.MeasureT-loop
-μ-loop s m k₀ k = m - k
+μ-loop s m n k₀ k = m - k
 
 loop-holds : tie.Need-loop-holds Inv-loop μ-loop
-unfolding seasonsCode
-loop-holds c = (zero-le, refl)
+loop-holds c = (zero-le, rw sub-zero)
 
 season-code-requires : tie.Need-season-code-requires Inv-loop μ-loop
 season-code-requires c κs = omega arith
 
-mul-t6 : tie.Need-mul-t6 Inv-loop μ-loop
-mul-t6 c = omega arith
-
-add-t7 : tie.Need-add-t7 Inv-loop μ-loop
-add-t7 c = omega arith
+season-at-requires : tie.Need-season-at-requires Inv-loop μ-loop
+season-at-requires c κs = omega arith
 
 returns : tie.Need-returns Inv-loop μ-loop
 returns c =
-    let e = c .before .season-code .ensures in
-    let r = season-stops _ _ _ (c .before .before .before .loop .inv .1) (λ z. c .if1 .taken (e ∙ z)) (c .before .before .loop-test .taken) in
-    (e ∙ sym (r .0), ap (λ (n : ℕ). 36 + 10 * n) (sym (r .1)))
+    let i = c .before .before in
+    let l = i .before .before .loop in
+    let a = i .before .before .before .before .args in
+    let e : a .m - l .k ≡ suc (a .m - (l .k + 1)) = omega arith in
+    rw (c .season-at .ensures, i .season-code .ensures) (sym (stops (a .s .now) (l .k) _ (scanPosition (a .s .now) (a .m)) (λ z. c .before .if1 .taken (i .season-code .ensures ∙ z))) ∙ (rw e at (l .inv .1)))
 
 add-k : tie.Need-add-k Inv-loop μ-loop
 add-k c = omega arith
@@ -39,19 +51,21 @@ loop-less : tie.Need-loop-less Inv-loop μ-loop
 loop-less c = omega arith
 
 loop-again : tie.Need-loop-again Inv-loop μ-loop
-loop-again c = (omega arith, season-next _ _ (c .before .before .before .loop .inv .1) (sym (c .before .season-code .ensures) ∙ c .if1 .left))
+loop-again c =
+    let l = c .before .before .before .loop in
+    let a = c .before .before .before .before .before .args in
+    let e : a .m - l .k ≡ suc (a .m - (l .k + 1)) = omega arith in
+    (omega arith, sym (passes (a .s .now) (l .k) _ (scanPosition (a .s .now) (a .m)) (sym (c .before .season-code .ensures) ∙ c .if1 .left)) ∙ (rw e at (l .inv .1)))
 
-mul-t8 : tie.Need-mul-t8 Inv-loop μ-loop
-mul-t8 c = omega arith
-
-add-t9 : tie.Need-add-t9 Inv-loop μ-loop
-add-t9 c = omega arith
+scan-position-requires : tie.Need-scan-position-requires Inv-loop μ-loop
+scan-position-requires c κs = omega arith
 
 returns-2 : tie.Need-returns-2 Inv-loop μ-loop
+unfolding scanSeasons
 returns-2 c =
-    let e : c .before .loop .k ≡ c .before .before .before .args .m = omega arith in
-    let z = rw e at (c .before .loop .inv .1) in
-    (sym z, ap (λ (n : ℕ). 36 + 10 * n) (e ∙ sym (seasons-all _ _ z)))
+    let l = c .before .before .loop in
+    let e : c .before .before .before .before .args .m - l .k ≡ 0 = omega arith in
+    c .scan-position .ensures ∙ (rw e at (l .inv .1))
 
 pub scan-seasons-spec : {M : Type 1} → statement M
 scan-seasons-spec =
@@ -61,12 +75,10 @@ scan-seasons-spec =
     μ-loop
     loop-holds
     season-code-requires
-    mul-t6
-    add-t7
+    season-at-requires
     returns
     add-k
     loop-less
     loop-again
-    mul-t8
-    add-t9
+    scan-position-requires
     returns-2)

@@ -1,34 +1,34 @@
 -- `snapshot::reading::season_code` meets its contract: each return goes by the tests that led there.
-use Prim.Native.Nat.{_+_, _*_, _≤_}
+use Prim.Native.Nat.{_+_, _≤_}
 use mathlib.Core.Path.{refl, sym, _∙_}
 use native.Mathlib.Omega.{arith}
 use lib.ListN.{length}
 use borrow.Author.Tests.{eq-eqb, ne-eqb}
 use mir.Syntax.{w64}
-use mir.ValLaws.{toZ-ofZ}
-use Rattle.snapshot.specs.Snapshots.{isCommand, seasonCode}
+use Rattle.integers.proofs.Difference.{back}
+use Rattle.snapshot.specs.CommandTable.{isCommand, commandSize, seasonLength}
+use Rattle.snapshot.specs.Layout.{seasonAt}
+use Rattle.snapshot.specs.Snapshots.{seasonCode}
 use Rattle.snapshot.proofs.Accepting.{due}
 use borrow.Author.Needs.{needs}
 use Rattle.snapshot.proofs.reading.season_code.Statement.{statement}
 use Rattle.snapshot.proofs.reading.season_code.Tie as tie
 
 -- the command is there, whole
-room : (c : tie.Else1) → 36 + 10 * c .before .before .before .args .k + 10 ≤ length (c .before .before .before .args .s .now)
-room c = due _ _ 0x12 10 (sym (c .before .due .ensures) ∙ c .if1 .left) .room
+room : (c : tie.Else1) → c .before .before .season-at .result + seasonLength ≤ length (c .before .before .before .before .args .s .now)
+unfolding commandSize
+room c = due _ _ 0x12 (sym (c .before .due .ensures) ∙ c .if1 .left) .room
 
-mul-at : tie.Need-mul-at
-mul-at c = search needs
-
-add-due : tie.Need-add-due
-add-due c = search needs
+season-at-requires : tie.Need-season-at-requires
+season-at-requires c κs = search needs
 
 due-requires : tie.Need-due-requires
-unfolding isCommand
+unfolding isCommand commandSize
 due-requires c κs = refl
 
 returns : tie.Need-returns
 unfolding seasonCode
-returns c = rw (← (c .before .due .ensures), ne-eqb _ _ (c .if1 .taken))
+returns c = rw (← (c .before .before .season-at .ensures), ← (c .before .due .ensures), ne-eqb _ _ (c .if1 .taken))
 
 add-if2 : tie.Need-add-if2
 add-if2 c = search needs
@@ -37,11 +37,13 @@ shared-slice-read-if2 : tie.Need-shared-slice-read-if2
 shared-slice-read-if2 c = omega (arith, room (c .before))
 
 cast-if2 : tie.Need-cast-if2
-cast-if2 c = omega (arith, c .shared-slice-known2 .given (37 + 10 * c .before .before .before .before .args .k))
+cast-if2 c = omega (arith, c .shared-slice-known2 .given (c .before .before .before .season-at .result + 1))
 
 returns-2 : tie.Need-returns-2
 unfolding seasonCode
-returns-2 c = rw (← (c .before .before .before .due .ensures), eq-eqb _ _ (c .before .before .if1 .left), ne-eqb _ _ (c .if2 .taken))
+returns-2 c =
+    let i = c .before .before in
+    rw (← (i .before .before .season-at .ensures), ← (i .before .due .ensures), eq-eqb _ _ (i .if1 .left), ne-eqb _ _ (c .if2 .taken))
 
 add-read-i64 : tie.Need-add-read-i64
 add-read-i64 c = search needs
@@ -52,22 +54,21 @@ read-i64-requires c κs = omega (arith, room (c .before .before))
 in-range-requires : tie.Need-in-range-requires
 in-range-requires c κs = search needs
 
-reject-unless-requires : tie.Need-reject-unless-requires
-reject-unless-requires c κs = search needs
+unless-requires : tie.Need-unless-requires
+unless-requires c κs = search needs
 
 returns-3 : tie.Need-returns-3
 unfolding seasonCode
 returns-3 c =
-    let v = toZ-ofZ w64 _ (search needs) ∙ c .before .before .read-i64 .ensures in
-    rw (← (c .before .before .before .before .before .before .due .ensures), eq-eqb _ _ (c .before .before .before .before .before .if1 .left), eq-eqb _ _ (c .before .before .before .if2 .left), ← v, ← (c .before .in-range .ensures))
-    (c .reject-unless .ensures)
+    let r = c .before .before in
+    let i = r .before .before .before in
+    rw (← (i .before .before .season-at .ensures), ← (i .before .due .ensures), eq-eqb _ _ (i .if1 .left), eq-eqb _ _ (r .before .if2 .left), ← (back w64 _ (r .read-i64 .ok) ∙ r .read-i64 .ensures), ← (c .before .in-range .ensures)) (c .unless .ensures)
 
 pub season-code-spec : {M : Type 1} → statement M
 season-code-spec =
     tie.close
     (tie.spec
-    mul-at
-    add-due
+    season-at-requires
     due-requires
     returns
     add-if2
@@ -77,5 +78,5 @@ season-code-spec =
     add-read-i64
     read-i64-requires
     in-range-requires
-    reject-unless-requires
+    unless-requires
     returns-3)

@@ -1,10 +1,12 @@
 -- `snapshot::saving::write_level` meets its contract: stores one after the other.
+use Prim.Native.Nat.{_+_}
 use mathlib.Core.Path.{refl}
 use mathlib.Core.List.{[], _∷_, _++_}
 use mir.Syntax.{w64}
 use mir.Val.{ofZ}
 use mir.ValLaws.{toZ-ofZ}
 use Rattle.snapshot.specs.Bytes.{signedBytes}
+use Rattle.snapshot.specs.Layout.{levelAt, levelBytes}
 use Rattle.snapshot.proofs.ByteLaws.{length-toBytes, follow}
 use borrow.Author.Needs.{needs}
 use Rattle.snapshot.proofs.saving.write_level.Statement.{statement}
@@ -23,17 +25,18 @@ same-length : tie.Need-same-length
 same-length c = search needs
 
 returns : tie.Need-returns
+unfolding levelBytes
 returns c =
-    let s = c .before .before .before .before .before .before .before .before .before .before .before .before .before in
-    let w = c .before .before .before .before .before .before .before .before .before .before .write-byte in
-    let v = c .before .before .before .before .before .before .write-i64 in
-    let u = c .before .before .write-i642 in
+    let u = c .before .before in
+    let v = u .before .before .before .before in
+    let w = v .before .before .before .before in
+    let s = w .before .before .before in
     let L = signedBytes (s .args .level) in
     let T = signedBytes (s .args .trend) in
-    let l = rw (toZ-ofZ w64 (s .args .level) (s .fits .level)) at (v .ensures) in
-    let b = rw (toZ-ofZ w64 (s .args .trend) (s .fits .trend)) at (u .ensures) in
-    follow (s .args .d .now) 19 (0x11 ∷ []) (L ++ T) (w .last .0) (u .last .0) 20 (w .ensures)
-    (follow (w .last .0) 20 L T (v .last .0) (u .last .0) 28 l b (rw (length-toBytes 8 (ofZ w64 (s .args .level))))) refl
+    let l = rw (toZ-ofZ w64 (s .args .level) (s .fits .level)) at (v .write-i64 .ensures) in
+    let b = rw (toZ-ofZ w64 (s .args .trend) (s .fits .trend)) at (u .write-i642 .ensures) in
+    follow (s .args .d .now) levelAt (0x11 ∷ []) (L ++ T) (w .write-byte .last .0) (u .write-i642 .last .0) (levelAt + 1) (w .write-byte .ensures)
+    (follow (w .write-byte .last .0) (levelAt + 1) L T (v .write-i64 .last .0) (u .write-i642 .last .0) (levelAt + 9) l b (rw (length-toBytes 8 (ofZ w64 (s .args .level))))) refl
 
 pub write-level-spec : {M : Type 1} → statement M
 write-level-spec =

@@ -1,8 +1,12 @@
 -- `snapshot::saving::write_position` meets its contract: stores one after the other.
 use native.Mathlib.Numerals.{add-one, add-two}
+use Rattle.snapshot.specs.Layout.{positionBytes}
 use borrow.Author.Needs.{needs}
 use Rattle.snapshot.proofs.saving.write_position.Statement.{statement}
 use Rattle.snapshot.proofs.saving.write_position.Tie as tie
+
+season-at-requires : tie.Need-season-at-requires
+season-at-requires c κs = search needs
 
 write-byte-requires : tie.Need-write-byte-requires
 write-byte-requires c κs = search needs
@@ -23,12 +27,18 @@ same-length : tie.Need-same-length
 same-length c = search needs
 
 returns : tie.Need-returns
-returns c = rw (c .before .before .before .before .before .before .write-byte2 .ensures, c .before .before .before .before .before .before .before .before .before .before .write-byte .ensures, add-one, add-two) at (c .before .before .write-le .ensures)
+unfolding positionBytes
+returns c =
+    let w = c .before .before in
+    let i = w .before .before .before .before in
+    let f = i .before .before .before .before in
+    rw (i .write-byte2 .ensures, f .write-byte .ensures, add-one, add-two, f .before .before .season-at .ensures) at (w .write-le .ensures)
 
 pub write-position-spec : {M : Type 1} → statement M
 write-position-spec =
     tie.close
     (tie.spec
+    season-at-requires
     write-byte-requires
     add-write-byte
     write-byte-requires-2

@@ -43,7 +43,7 @@ returns-9 c = rw (c .match .keys9) (refl, refl)
 
 returns-10 : tie.Need-returns-10
 unfolding commandSize onlyInSnapshot
-returns-10 c = 
+returns-10 c =
     let r = c .match .rest in
     rw (ne-eqb _ _ (r .0 .0 .0 .0 .0 .0 .0 .0 .1), ne-eqb _ _ (r .0 .0 .0 .0 .0 .0 .0 .1), ne-eqb _ _ (r .0 .0 .0 .0 .0 .0 .1), ne-eqb _ _ (r .0 .0 .0 .0 .0 .1), ne-eqb _ _ (r .0 .0 .0 .0 .1), ne-eqb _ _ (r .0 .0 .0 .1), ne-eqb _ _ (r .0 .0 .1), ne-eqb _ _ (r .0 .1), ne-eqb _ _ (r .1)) (refl, refl)
 

@@ -1,2 +1,0 @@
-pub mod LentLaws
-pub mod FieldSteps

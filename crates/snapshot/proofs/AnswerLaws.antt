@@ -1,0 +1,10 @@
+-- What the enum Length tells of the rejection and the number that it was made of.
+use Prim.Native.Nat.{ℕ, zero, suc}
+use mathlib.Core.Path.{_≡_, refl}
+use native.Mathlib.Omega.{arith}
+use lib.Dec.{eqb·suc-zero}
+use Rattle.snapshot.specs.Promises.{Lengths}
+
+pub lengths : Lengths
+lengths zero v = record { code = refl; value = λ z. refl }
+lengths (suc n) v = record { code = rw (eqb·suc-zero n); value = λ z. absurd (omega arith) }

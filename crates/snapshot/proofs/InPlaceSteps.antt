@@ -1,0 +1,218 @@
+-- A call in place works on the numbers of its slice: they are those of the state that the slice holds, and what is written is the snapshot of the next one.
+use Prim.Native.Nat.{ℕ, _+_, _-_, _%_, _≤_, _<_}
+use mathlib.Core.Path.{_≡_, refl, sym, ap, _∙_}
+use mathlib.Core.Bool.{Bool, true, false, cond, _||_}
+use mathlib.Core.List.{List}
+use native.Mathlib.Nat.{mod-lt}
+use native.Mathlib.Omega.{arith}
+use borrow.Author.Tests.{eq-eqb, ne-eqb, eqb-true, eqb-false, ltb-true}
+use lib.Dec.{eqb}
+use lib.IntN.{ℤ, pos}
+use lib.ListN.{length, getD, set}
+use Rattle.integers.specs.Bounds.{Within}
+use Rattle.integers.proofs.Bounds.{within-zero}
+use Rattle.state.specs.Rejections.{unless, _then_, out-of-place, count-full}
+use Rattle.state.specs.Fixed.{maxCount}
+use Rattle.state.specs.Models.{hasSeason}
+use Rattle.state.specs.States.{check, indexOk, countOk}
+use Rattle.state.specs.declared.State.{State}
+use Rattle.state.proofs.Passing.{bounded, no-season, with-season}
+use Rattle.state.proofs.Tests.{both, then-zero, unless-zero}
+use Rattle.ets.specs.Steps.{residualOf, newLevel, newTrend, newSeason, newSeasonal, nextIndex, afterReading, afterMissing, corrected, stepCode, missingCode}
+use Rattle.ets.specs.Forecasts.{seasonAt as seasonAhead, forecastCode, forecastOf}
+use Rattle.ets.specs.Updates.{numbersOf, updateOf}
+use Rattle.ets.specs.declared.Numbers.{Numbers}
+use Rattle.ets.specs.declared.Update.{Update}
+use Rattle.ets.proofs.UpdateLaws.{update-code, update-is, step-room}
+use Rattle.snapshot.specs.Answers.{accepting}
+use Rattle.snapshot.specs.Bytes.{AreBytes}
+use Rattle.snapshot.specs.Layout.{periodIn, seasonIn, indexIn, countIn, modelBytes}
+use Rattle.snapshot.specs.Snapshots.{openCode, openOffset, cellsAt, decoded, encoded}
+use Rattle.snapshot.specs.InPlace.{inPlaceCode, rejection, bytesAfter, numberAfter}
+use Rattle.snapshot.specs.Facts.{Room, numbersIn, aheadIn, Held, movedOn, seasonPut, stored}
+use Rattle.snapshot.specs.declared.in_place.Checked.{Checked}
+use Rattle.snapshot.proofs.Accepting.{accepted, accepted-room}
+use Rattle.snapshot.proofs.RoundTrip.{length-model, cell-read, cell-none, accepted-passes, length-decoded, whole}
+use Rattle.snapshot.proofs.Patches.{snapshotOf, level-written, season-written, position-written}
+
+-- ---- the slice holds one snapshot and nothing after it
+pub one-snapshot : (d : List ℕ) → inPlaceCode d ≡ 0 → (openCode d ≡ 0) × (openOffset d ≡ length d)
+unfolding inPlaceCode
+one-snapshot d h =
+    let c = then-zero (openCode d) (unless (eqb (openOffset d) (length d)) out-of-place) h in
+    (c .0, eqb-true (openOffset d) (length d) (unless-zero (eqb (openOffset d) (length d)) 2 (c .1)))
+
+-- ---- its numbers are those of its state
+module _ (d : List ℕ) (ok : openCode d ≡ 0) where
+  pub season-value : (k : ℕ) → k < decoded d .period → seasonIn d k ≡ getD (decoded d .seasonal) k (pos 0)
+  unfolding decoded
+  season-value k h = sym (cell-read d (periodIn d) k (accepted-room d ok .period) h)
+
+  index-in : indexOk (periodIn d) (indexIn d (periodIn d)) ≡ true
+  index-in = both (indexOk (periodIn d) (indexIn d (periodIn d))) (countOk (countIn d (periodIn d))) (accepted d ok .position .ok) .0
+
+  season-due : cond (eqb (periodIn d) 0) (pos 0) (seasonIn d (indexIn d (periodIn d))) ≡ getD (cellsAt d (periodIn d)) (indexIn d (periodIn d)) (pos 0)
+  season-due = go (eqb (periodIn d) 0) refl
+    where
+      go : (t : Bool) → eqb (periodIn d) 0 ≡ t → cond t (pos 0) (seasonIn d (indexIn d (periodIn d))) ≡ getD (cellsAt d (periodIn d)) (indexIn d (periodIn d)) (pos 0)
+      go true e =
+          let z : indexIn d (periodIn d) ≡ 0 = eqb-true (indexIn d (periodIn d)) 0 (rw e at index-in) in
+          sym (cell-none d (periodIn d) (indexIn d (periodIn d)) (omega arith) (omega (arith, eqb-true (periodIn d) 0 e)))
+      go false e =
+          sym (cell-read d (periodIn d) (indexIn d (periodIn d)) (accepted-room d ok .period) (ltb-true (indexIn d (periodIn d)) (periodIn d) (rw e at index-in)))
+
+  numbers-are : numbersIn d (periodIn d) (indexIn d (periodIn d)) ≡ numbersOf (decoded d)
+  unfolding decoded
+  numbers-are = rw season-due
+
+pub held : (d : List ℕ) → AreBytes d → inPlaceCode d ≡ 0 → (x : Checked) → x .period ≡ periodIn d → x .index ≡ indexIn d (periodIn d) → x .numbers ≡ numbersIn d (periodIn d) (indexIn d (periodIn d)) → Held d x
+unfolding decoded
+held d b z x m p n =
+    let o = one-snapshot d z in
+    record {
+      period = m;
+      index = p;
+      numbers = n ∙ numbers-are d (o .0);
+      passes = accepted-passes d (o .0);
+      whole = whole d b (o .0) (o .1);
+      room = accepted-room d (o .0);
+    }
+
+-- ---- the season value of a horizon
+module _ (d : List ℕ) (ok : openCode d ≡ 0) (h : ℕ) where
+  abbrev pub aheadValue : ℤ
+  aheadValue = aheadIn d (decoded d .period) (decoded d .index) h
+
+  pub ahead-within : Within 1099511627776 aheadValue
+  ahead-within = go (eqb (decoded d .period) 0) refl (eqb h 0)
+    where
+      go : (t : Bool) → eqb (decoded d .period) 0 ≡ t → (u : Bool) → Within 1099511627776 (cond (t || u) (pos 0) (seasonIn d ((decoded d .index + h - 1) % decoded d .period)))
+      go true e u = within-zero 1099511627776
+      go false e true = within-zero 1099511627776
+      go false e false =
+          let b = bounded (decoded d) (accepted-passes d ok) in
+          let m : 0 < decoded d .period = omega (arith, eqb-false (decoded d .period) 0 e) in
+          let l = mod-lt (decoded d .index + h - 1) m in
+          rw (season-value d ok ((decoded d .index + h - 1) % decoded d .period) l) (b .cells _ (omega arith))
+
+  pub ahead-is : 1 ≤ h → aheadValue ≡ seasonAhead (decoded d) h
+  unfolding seasonAhead
+  ahead-is l = go (hasSeason (decoded d .model)) refl
+    where
+      go : (t : Bool) → hasSeason (decoded d .model) ≡ t → aheadIn d (decoded d .period) (decoded d .index) h ≡ cond t (getD (decoded d .seasonal) ((decoded d .index + h - 1) % decoded d .period) (pos 0)) (pos 0)
+      go true e =
+          let w = with-season (decoded d) (accepted-passes d ok) e in
+          let m : 0 < decoded d .period = omega arith in
+          rw (ne-eqb (decoded d .period) 0 (λ z. omega arith), ne-eqb h 0 (λ z. omega arith)) (season-value d ok ((decoded d .index + h - 1) % decoded d .period) (mod-lt (decoded d .index + h - 1) m))
+      go false e = rw (eq-eqb (decoded d .period) 0 (no-season (decoded d) (accepted-passes d ok) e .period))
+
+-- ---- what is written
+encoded-is : (s : State) → encoded s ≡ snapshotOf (modelBytes (s .model) (s .period) (s .alpha) (s .beta) (s .gamma) (s .phi)) (s .level) (s .trend) (s .seasonal) (s .period) (s .index) (s .count)
+unfolding encoded
+encoded-is s = refl
+
+module _ (s : State) (ok : check s ≡ 0) (full : length (s .seasonal) ≡ 48) where
+  abbrev head : List ℕ
+  head = modelBytes (s .model) (s .period) (s .alpha) (s .beta) (s .gamma) (s .phi)
+
+  head-length : length head ≡ 19
+  head-length = length-model (s .model) (s .period) (s .alpha) (s .beta) (s .gamma) (s .phi)
+
+  season-put : (l b v : ℤ) → seasonPut (snapshotOf head l b (s .seasonal) (s .period) (s .index) (s .count)) (s .period) (s .index) v
+      ≡ snapshotOf head l b (cond (hasSeason (s .model)) (set (s .seasonal) (s .index) v) (s .seasonal)) (s .period) (s .index) (s .count)
+  season-put l b v = go (hasSeason (s .model)) refl
+    where
+      go : (t : Bool) → hasSeason (s .model) ≡ t → seasonPut (snapshotOf head l b (s .seasonal) (s .period) (s .index) (s .count)) (s .period) (s .index) v
+          ≡ snapshotOf head l b (cond t (set (s .seasonal) (s .index) v) (s .seasonal)) (s .period) (s .index) (s .count)
+      go true h =
+          let w = with-season s ok h in
+          rw (ne-eqb (s .period) 0 (λ z. omega arith)) (season-written head head-length l b (s .seasonal) (s .period) (s .index) (s .count) (s .index) v (w .index) (omega (arith, bounded s ok .index)))
+      go false h = rw (eq-eqb (s .period) 0 (no-season s ok h .period))
+
+  seasons-are : (e : ℤ) → cond (hasSeason (s .model)) (set (s .seasonal) (s .index) (newSeason s e)) (s .seasonal) ≡ newSeasonal s e
+  unfolding newSeasonal
+  seasons-are e = refl
+
+  pub step-written : (e : ℤ) (u : Update) → u .level ≡ newLevel s e → u .trend ≡ newTrend s e → u .season ≡ newSeason s e → stored (encoded s) (s .period) (s .index) (s .count) u ≡ encoded (corrected s e)
+  step-written e u el eb es =
+      let p = nextIndex (s .period) (s .index) in
+      rw (el, eb, es, encoded-is s, encoded-is (corrected s e), level-written head head-length (s .level) (s .trend) (s .seasonal) (s .period) (s .index) (s .count) (newLevel s e) (newTrend s e), season-put (newLevel s e) (newTrend s e) (newSeason s e), seasons-are e)
+      (position-written head head-length (newLevel s e) (newTrend s e) (newSeasonal s e) (s .period) (s .index) (s .count) p (s .count + 1))
+
+  pub missing-written : movedOn (encoded s) (s .period) (s .index) (s .count) ≡ encoded (afterMissing s)
+  missing-written =
+      rw (encoded-is s, encoded-is (afterMissing s))
+      (position-written head head-length (s .level) (s .trend) (s .seasonal) (s .period) (s .index) (s .count) (nextIndex (s .period) (s .index)) (s .count + 1))
+
+-- ---- the update on the numbers of a state that passes is the step
+pub record Direct (s : State) (y : ℤ) (u : Update) : Type 0 where
+  pub level : u .level ≡ newLevel s (residualOf s y)
+  pub trend : u .trend ≡ newTrend s (residualOf s y)
+  pub season : u .season ≡ newSeason s (residualOf s y)
+  pub residual : u .residual ≡ residualOf s y
+  pub count : s .count < maxCount
+
+module _ (s : State) (ok : check s ≡ 0) (y : ℤ) where
+  pub direct-code : updateOf (numbersOf s) y .code ≡ stepCode s y
+  direct-code = update-code s ok y
+
+  pub direct : stepCode s y ≡ 0 → Direct s y (updateOf (numbersOf s) y)
+  direct z =
+      let u = update-is s ok y z in
+      record {
+        level = ap (λ (v : Update). v .level) u;
+        trend = ap (λ (v : Update). v .trend) u;
+        season = ap (λ (v : Update). v .season) u;
+        residual = ap (λ (v : Update). v .residual) u;
+        count = step-room s y z;
+      }
+
+-- ---- so what a call stored, by the numbers that it goes by, is the snapshot of the next state
+module _ (d : List ℕ) (x : Checked) (h : Held d x) where
+  pub count-is : x .numbers .count ≡ decoded d .count
+  count-is = ap (λ (n : Numbers). n .count) (h .numbers)
+
+  pub room-is : Room d (x .period) (x .index)
+  room-is = rw (h .period, h .index) (h .room)
+
+  pub step-stored : (y : ℤ) (u : Update) → u ≡ updateOf (numbersOf (decoded d)) y → stepCode (decoded d) y ≡ 0 → stored d (x .period) (x .index) (x .numbers .count) u ≡ encoded (afterReading (decoded d) y)
+  step-stored y u e z =
+      let s = decoded d in
+      let k = direct s (h .passes) y z in
+      rw (h .period, h .index, count-is)
+      (ap (λ (l : List ℕ). stored l (s .period) (s .index) (s .count) u) (sym (h .whole))
+      ∙ step-written s (h .passes) (length-decoded d) (residualOf s y) u (ap (λ (v : Update). v .level) e ∙ k .level) (ap (λ (v : Update). v .trend) e ∙ k .trend) (ap (λ (v : Update). v .season) e ∙ k .season))
+
+  pub missing-stored : movedOn d (x .period) (x .index) (x .numbers .count) ≡ encoded (afterMissing (decoded d))
+  missing-stored =
+      let s = decoded d in
+      rw (h .period, h .index, count-is)
+      (ap (λ (l : List ℕ). movedOn l (s .period) (s .index) (s .count)) (sym (h .whole)) ∙ missing-written s (h .passes) (length-decoded d))
+
+  pub full-is : x .numbers .count ≡ maxCount → missingCode (decoded d) ≡ count-full
+  unfolding missingCode
+  full-is e = rw (h .passes, eq-eqb (decoded d .count) maxCount (sym count-is ∙ e))
+
+  pub free-is : (x .numbers .count ≡ maxCount → ⊥) → missingCode (decoded d) ≡ 0
+  unfolding missingCode
+  free-is n = rw (h .passes, ne-eqb (decoded d .count) maxCount (λ e. n (count-is ∙ e)))
+
+-- ---- a call by its rejection: before the state is looked at, and past that
+module _ (code : State → ℕ) (d : List ℕ) where
+  pub before : (inPlaceCode d ≡ 0 → ⊥) → rejection code d ≡ inPlaceCode d
+  before n = rw (ne-eqb (inPlaceCode d) 0 n)
+
+  pub past : inPlaceCode d ≡ 0 → rejection code d ≡ code (decoded d)
+  past z = rw z
+
+  pub bytes-rejected : (next : State → State) (n : ℕ) → rejection code d ≡ n → (n ≡ 0 → ⊥) → d ≡ bytesAfter code next d
+  bytes-rejected next n e h = rw (e, ne-eqb n 0 h)
+
+  pub number-rejected : (value : State → ℤ) (old : ℤ) (n : ℕ) → rejection code d ≡ n → (n ≡ 0 → ⊥) → old ≡ numberAfter code value d old
+  number-rejected value old n e h = rw (e, ne-eqb n 0 h)
+
+  pub bytes-accepted : (next : State → State) → rejection code d ≡ 0 → bytesAfter code next d ≡ encoded (next (decoded d))
+  bytes-accepted next e = rw e
+
+  pub number-accepted : (value : State → ℤ) (old : ℤ) → rejection code d ≡ 0 → numberAfter code value d old ≡ value (decoded d)
+  number-accepted value old e = rw e

@@ -1,0 +1,116 @@
+-- The offset of a rejection lies in the stream; rejection 4 tells the stream's length where no command is begun.
+use Prim.Native.Nat.{ℕ, zero, suc, _+_, _-_, _≤_, _<_}
+use mathlib.Core.Path.{_≡_, refl, sym, ap, _∙_}
+use mathlib.Core.Bool.{Bool, true, false, _&&_}
+use mathlib.Core.Logic.{_⊎_, inl, inr}
+use mathlib.Core.List.{List}
+use native.Mathlib.Omega.{arith}
+use borrow.Author.Tests.{ltb-true, ltb-false, leb-false, eqb-true}
+use lib.Dec.{eqb, ltb, leb, eqb·suc-zero}
+use lib.ListN.{length, getD}
+use Rattle.state.specs.Rejections.{unless, _then_, truncated, unknown-command, out-of-place}
+use Rattle.state.specs.Fixed.{inRange}
+use Rattle.state.specs.Models.{validModel, periodOk, parametersOk}
+use Rattle.state.specs.States.{trendOk, indexOk, countOk}
+use Rattle.snapshot.specs.CommandTable.{commandSize, isCommand}
+use Rattle.snapshot.specs.Layout.{modelAt, levelAt, seasonAt, positionAt, sizeOf, modelIn, periodIn, alphaIn, betaIn, gammaIn, phiIn, levelIn, trendIn, placeIn, seasonIn, indexIn, countIn}
+use Rattle.snapshot.specs.Snapshots.{dueCode, modelCode, levelCode, seasonCode, positionCode, finished, scanPosition, scanSeasons, scan}
+use Rattle.snapshot.specs.Promises.{Offsets, Located}
+use Rattle.snapshot.specs.declared.reading.Scanned.{Scanned}
+use Rattle.snapshot.proofs.Accepting.{model, level, season, position}
+
+-- the bytes end before a command at an offset, or inside it
+abbrev Cut : List ℕ → ℕ → Type 0
+Cut s at = (at ≡ length s) ⊎ ((at < length s) × (length s < at + commandSize (getD s at 0)))
+
+cut : (s : List ℕ) (at first : ℕ) → at ≤ length s → (t u v w : Bool) → ltb at (length s) ≡ t → eqb (getD s at 0) first ≡ v → leb (commandSize first) (length s - at) ≡ w
+    → (unless t truncated then unless u unknown-command then unless v out-of-place then unless w truncated) ≡ 4 → Cut s at
+cut s at first l false u v w et ev ew h = inl (omega (arith, ltb-false at (length s) et))
+cut s at first l true false v w et ev ew h = absurd (omega arith)
+cut s at first l true true false w et ev ew h = absurd (omega arith)
+cut s at first l true true true true et ev ew h = absurd (omega arith)
+cut s at first l true true true false et ev ew h =
+    let a = ltb-true at (length s) et in
+    let b = leb-false (commandSize first) (length s - at) ew in
+    inr (a, rw (eqb-true (getD s at 0) first ev) (omega arith))
+
+due-cut : (s : List ℕ) (at first : ℕ) → at ≤ length s → dueCode s at first ≡ 4 → Cut s at
+unfolding dueCode
+due-cut s at first l h = cut s at first l _ (isCommand (getD s at 0)) _ _ refl refl refl h
+
+-- no later check of a command gives 4
+later : (n k : ℕ) → (n then k) ≡ 4 → (k ≡ 4 → ⊥) → n ≡ 4
+later zero k h o = absurd (o h)
+later (suc n) k h o = rw (eqb·suc-zero n) at h
+
+not-one : (t : Bool) (n : ℕ) → (n ≡ 4 → ⊥) → unless t n ≡ 4 → ⊥
+not-one true n o h = omega arith
+not-one false n o h = o h
+
+not-both : (n k : ℕ) → (n ≡ 4 → ⊥) → (k ≡ 4 → ⊥) → (n then k) ≡ 4 → ⊥
+not-both n k o q h = o (later n k h q)
+
+-- ---- one command after the other
+abbrev LocatedAt : List ℕ → Scanned → Type 0
+LocatedAt s r = (r .offset ≤ length s) × (r .code ≡ 4 → Cut s (r .offset))
+
+finished-at : (s : List ℕ) (at code : ℕ) (r : Scanned) → at ≤ length s → (code ≡ 4 → Cut s at) → (code ≡ 0 → LocatedAt s r) → LocatedAt s (finished at code r)
+finished-at s at zero r l c k = k refl
+finished-at s at (suc n) r l c k = rw (eqb·suc-zero n) (l, c)
+
+season-cut : (s : List ℕ) (k : ℕ) → seasonAt k ≤ length s → seasonCode s k ≡ 4 → Cut s (seasonAt k)
+unfolding seasonCode
+season-cut s k l h =
+    let i = eqb (placeIn s k) k in
+    let v = inRange (seasonIn s k) in
+    due-cut s (seasonAt k) 0x12 l
+    (later (dueCode s (seasonAt k) 0x12) (unless i 8 then unless v 9) h (not-both (unless i 8) (unless v 9) (not-one i 8 (λ e. omega arith)) (not-one v 9 (λ e. omega arith))))
+
+seasons-at : (s : List ℕ) (k n : ℕ) (r : Scanned) → seasonAt k ≤ length s → (seasonAt (k + n) ≤ length s → LocatedAt s r) → LocatedAt s (scanSeasons s k n r)
+unfolding scanSeasons
+seasons-at s k zero r l f = f (omega arith)
+seasons-at s k (suc n) r l f =
+    finished-at s (seasonAt k) (seasonCode s k) (scanSeasons s (suc k) n r) l (season-cut s k l)
+    (λ z.
+    let w = season s k z .due .room in
+    seasons-at s (suc k) n r (omega arith) (λ g. f (omega arith)))
+
+model-cut : (s : List ℕ) → modelCode s ≡ 4 → Cut s modelAt
+unfolding modelCode
+model-cut s h =
+    let m = validModel (modelIn s) in
+    let p = periodOk (modelIn s) (periodIn s) in
+    let g = parametersOk (modelIn s) (alphaIn s) (betaIn s) (gammaIn s) (phiIn s) in
+    due-cut s modelAt 0x10 (omega arith)
+    (later (dueCode s modelAt 0x10) (unless m 5 then unless p 6 then unless g 7) h
+    (not-both (unless m 5) (unless p 6 then unless g 7) (not-one m 5 (λ e. omega arith)) (not-both (unless p 6) (unless g 7) (not-one p 6 (λ e. omega arith)) (not-one g 7 (λ e. omega arith)))))
+
+level-cut : (s : List ℕ) → levelAt ≤ length s → levelCode s ≡ 4 → Cut s levelAt
+unfolding levelCode
+level-cut s l h =
+    let v = inRange (levelIn s) && trendOk (modelIn s) (trendIn s) in
+    due-cut s levelAt 0x11 l (later (dueCode s levelAt 0x11) (unless v 9) h (not-one v 9 (λ e. omega arith)))
+
+position-cut : (s : List ℕ) (m : ℕ) → positionAt m ≤ length s → positionCode s m ≡ 4 → Cut s (positionAt m)
+unfolding positionCode
+position-cut s m l h =
+    let v = indexOk m (indexIn s m) && countOk (countIn s m) in
+    due-cut s (positionAt m) 0x13 l (later (dueCode s (positionAt m) 0x13) (unless v 10) h (not-one v 10 (λ e. omega arith)))
+
+position-at : (s : List ℕ) (m : ℕ) → positionAt m ≤ length s → LocatedAt s (scanPosition s m)
+position-at s m l =
+    finished-at s (positionAt m) (positionCode s m) (record { code = 0; offset = sizeOf m }) l (position-cut s m l)
+    (λ z. (position s m z .due .room, λ e. absurd (omega arith)))
+
+pub offsets : Offsets
+unfolding scan
+offsets s =
+    let r =
+    finished-at s modelAt (modelCode s) _ (omega arith) (model-cut s)
+    (λ z.
+    let m = model s z .due .room in
+    finished-at s levelAt (levelCode s) _ m (level-cut s m)
+    (λ y.
+    let l = level s y .due .room in
+    seasons-at s 0 (periodIn s) (scanPosition s (periodIn s)) l (λ w. position-at s (periodIn s) (omega arith)))) in
+    record { within = r .0; cut = r .1 }

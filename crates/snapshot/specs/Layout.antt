@@ -1,0 +1,92 @@
+-- Document 01, "Commands": a snapshot (the paper's group) is the commands 10, 11, then 12 for the places 0 to m − 1 rising, then 13.
+-- Where each command stands, its operands in a stream, and its bytes: these numbers stand nowhere else.
+use Prim.Native.Nat.{ℕ, zero, suc, _+_, _*_}
+use mathlib.Core.List.{List, [], _∷_, _++_}
+use lib.IntN.{ℤ, pos}
+use lib.ListN.{getD}
+use Rattle.state.specs.Models.{trendOf, seasonOf}
+use Rattle.snapshot.specs.Bytes.{unsignedAt, signedAt, toBytes, signedBytes}
+use Rattle.snapshot.specs.CommandTable.{modelLength, levelLength, seasonLength, positionLength}
+
+-- ---- where each command stands
+abbrev pub modelAt : ℕ
+modelAt = 0
+
+abbrev pub levelAt : ℕ
+levelAt = modelAt + modelLength
+
+-- the command 12 of seasonal index k (the paper's place)
+abbrev pub seasonAt : ℕ → ℕ
+seasonAt k = levelAt + levelLength + seasonLength * k
+
+-- after m of them
+abbrev pub positionAt : ℕ → ℕ
+positionAt m = seasonAt m
+
+-- a snapshot is 46 + 10 × m bytes
+abbrev pub sizeOf : ℕ → ℕ
+sizeOf m = positionAt m + positionLength
+
+-- ---- their operands
+abbrev pub modelIn : List ℕ → ℕ
+modelIn s = getD s (modelAt + 1) 0
+
+abbrev pub periodIn : List ℕ → ℕ
+periodIn s = getD s (modelAt + 2) 0
+
+abbrev pub alphaIn : List ℕ → ℕ
+alphaIn s = unsignedAt s (modelAt + 3) 4
+
+abbrev pub betaIn : List ℕ → ℕ
+betaIn s = unsignedAt s (modelAt + 7) 4
+
+abbrev pub gammaIn : List ℕ → ℕ
+gammaIn s = unsignedAt s (modelAt + 11) 4
+
+abbrev pub phiIn : List ℕ → ℕ
+phiIn s = unsignedAt s (modelAt + 15) 4
+
+abbrev pub levelIn : List ℕ → ℤ
+levelIn s = signedAt s (levelAt + 1)
+
+abbrev pub trendIn : List ℕ → ℤ
+trendIn s = signedAt s (levelAt + 9)
+
+-- the place byte and the value of the command 12 of index k
+abbrev pub placeIn : List ℕ → ℕ → ℕ
+placeIn s k = getD s (seasonAt k + 1) 0
+
+abbrev pub seasonIn : List ℕ → ℕ → ℤ
+seasonIn s k = signedAt s (seasonAt k + 2)
+
+-- p and the count, after m places
+abbrev pub indexIn : List ℕ → ℕ → ℕ
+indexIn s m = getD s (positionAt m + 1) 0
+
+abbrev pub countIn : List ℕ → ℕ → ℕ
+countIn s m = unsignedAt s (positionAt m + 2) 8
+
+-- ---- their bytes
+-- the model byte put together from its parts
+abbrev pub modelByte : ℕ → ℕ → ℕ
+modelByte trend season = season * 4 + trend
+
+abbrev pub parameterBytes : ℕ → ℕ → ℕ → ℕ → List ℕ
+parameterBytes A B G F = toBytes 4 A ++ (toBytes 4 B ++ (toBytes 4 G ++ toBytes 4 F))
+
+unfoldable pub modelBytes : ℕ → ℕ → ℕ → ℕ → ℕ → ℕ → List ℕ
+modelBytes model m A B G F = 0x10 ∷ modelByte (trendOf model) (seasonOf model) ∷ m ∷ parameterBytes A B G F
+
+unfoldable pub levelBytes : ℤ → ℤ → List ℕ
+levelBytes l b = 0x11 ∷ (signedBytes l ++ signedBytes b)
+
+unfoldable pub seasonBytes : ℕ → ℤ → List ℕ
+seasonBytes k v = 0x12 ∷ k ∷ signedBytes v
+
+-- places 0 to n − 1 rising
+unfoldable pub seasonsBytes : List ℤ → ℕ → List ℕ
+seasonsBytes cells zero = []
+seasonsBytes cells (suc n) = seasonsBytes cells n ++ seasonBytes n (getD cells n (pos 0))
+
+unfoldable pub positionBytes : ℕ → ℕ → List ℕ
+positionBytes p n = 0x13 ∷ p ∷ toBytes 8 n
