@@ -1,18 +1,20 @@
 -- Laws of a reply's line: how long it is, and what writing one gives.
-use Prim.Native.Nat.{ℕ, zero, suc, _+_, _*_, _≤_, _<_}
-use mathlib.Core.Path.{_≡_, sym, _∙_}
-use mathlib.Core.List.{List}
+use Prim.Native.Nat.{ℕ, zero, suc, _+_, _≤_, _<_}
+use mathlib.Core.Path.{_≡_, refl}
+use mathlib.Core.Bool.{Bool, true, false}
+use mathlib.Core.List.{List, [], _∷_}
 use native.Mathlib.Omega.{arith}
-use borrow.Author.Tests.{le-leb, lt-leb}
+use borrow.Author.Tests.{le-leb, lt-leb, leb-true}
+use lib.Dec.{leb}
 use lib.IntN.{ℤ, pos, negsuc}
-use lib.ListN.{length, length-append, length-take, take}
+use lib.ListN.{length, length-append, take}
 use lib.Seq.{sets}
-use Rattle.lines.specs.Lines.{signedDecimal, hexadecimal, numberBytes, fieldsBytes, fieldsOf, lineOf, writeLine, lineBytes}
+use Rattle.state.specs.Rejections.{unless}
+use Rattle.lines.specs.Lines.{decimal, signedDecimal, numberBytes, fieldsBytes, fieldsOf, lineOf, line, writeLine, lineBytes}
 use Rattle.lines.specs.declared.Reply.{Reply}
+use Rattle.lines.specs.declared.Reply.the-variants.{Opened, Residual, Missing, Forecast, Variance, Saved, Rejected, Ended}
 use Rattle.lines.specs.declared.Line.the-variants as line-of
 use Rattle.lines.specs.declared.fields.Fields.{Fields}
-use Rattle.lines.specs.declared.fields.Number.{Number}
-use Rattle.lines.specs.declared.fields.Number.the-variants.{Nothing, Unsigned, Signed, Hexadecimal}
 use Rattle.lines.proofs.DigitLaws.{length-decimal, count-most, length-hexadecimal}
 
 pub length-fields : (saved : List ℕ) (f : Fields)
@@ -30,3 +32,54 @@ module _ (r : Reply) (saved d : List ℕ) where
       → (writeLine r saved (length d) ≡ line-of.Bytes (length (lineOf r saved))) × (lineBytes r saved d ≡ sets d 0 (lineOf r saved))
   unfolding writeLine lineBytes
   long-enough h = let e = le-leb (length (lineOf r saved)) (length d) h in (rw e, rw e)
+
+-- ---- the longest line is that of a save of 526 bytes, a snapshot with a season of 48
+take-most : (n : ℕ) (l : List ℕ) → length (take n l) ≤ n
+take-most zero l = omega arith
+take-most (suc n) [] = omega arith
+take-most (suc n) (x ∷ l) = let h = take-most n l in omega arith
+
+unsigned-most : (n : ℕ) → length (decimal n) ≤ 20
+unsigned-most n = omega (arith, length-decimal n, count-most 19 n)
+
+signed-most : (z : ℤ) → length (signedDecimal z) ≤ 21
+unfolding signedDecimal
+signed-most (pos n) = omega (arith, unsigned-most n)
+signed-most (negsuc n) = omega (arith, unsigned-most (suc n))
+
+-- how many bytes a reply says were saved
+abbrev pub savedCount : Reply → ℕ
+savedCount (Opened model m) = 0
+savedCount (Residual e) = 0
+savedCount Missing = 0
+savedCount (Forecast h v) = 0
+savedCount (Variance h high low) = 0
+savedCount (Saved n) = n
+savedCount (Rejected code offset) = 0
+savedCount (Ended count) = 0
+
+pub line-most : (r : Reply) (saved : List ℕ) → savedCount r ≤ 526 → length (lineOf r saved) ≤ 1055
+unfolding lineOf
+line-most (Opened model m) saved h = omega (arith, length-fields saved (fieldsOf (Opened model m)), unsigned-most model, unsigned-most m)
+line-most (Residual e) saved h = omega (arith, length-fields saved (fieldsOf (Residual e)), signed-most e)
+line-most Missing saved h = omega (arith, length-fields saved (fieldsOf Missing))
+line-most (Forecast j v) saved h = omega (arith, length-fields saved (fieldsOf (Forecast j v)), unsigned-most j, signed-most v)
+line-most (Variance j high low) saved h =
+    omega (arith, length-fields saved (fieldsOf (Variance j high low)), unsigned-most j, unsigned-most high, unsigned-most low)
+line-most (Saved n) saved h = omega (arith, length-fields saved (fieldsOf (Saved n)), length-hexadecimal (take n saved), take-most n saved)
+line-most (Rejected code offset) saved h =
+    omega (arith, length-fields saved (fieldsOf (Rejected code offset)), unsigned-most code, unsigned-most offset)
+line-most (Ended count) saved h = omega (arith, length-fields saved (fieldsOf (Ended count)), unsigned-most count)
+
+-- a line that is written has room
+pub written-room : (r : Reply) (saved : List ℕ) (room n : ℕ) → writeLine r saved room ≡ line-of.Bytes n → n ≤ room
+unfolding writeLine
+written-room r saved room n e = go (leb (length (lineOf r saved)) room) refl e
+  where
+    go : (t : Bool) → leb (length (lineOf r saved)) room ≡ t → line (unless t 12) (length (lineOf r saved)) ≡ line-of.Bytes n → n ≤ room
+    go true q e =
+        let k : n ≡ length (lineOf r saved) = cc in
+        omega (arith, leb-true (length (lineOf r saved)) room q)
+    go false q e =
+        let z : _≡_ {A = ℕ} 0 1 = cc in
+        absurd (omega arith)
