@@ -36,7 +36,7 @@ use Rattle.lines.specs.declared.Reply.the-variants as reply-of
 use Rattle.lines.specs.declared.Line.the-variants as line-of
 use Rattle.lines.proofs.LineLaws.{savedCount, line-most, long-enough}
 use Rattle.commands.specs.Commands.{start, stopped, accepted, rejected, byOutcome, byAnswer, byVariance, commandCode, operands, decode, finish, restOffset, openSnapshot, takeReading, takeMissing, giveForecast, giveVariance, saveState, act, buffered, perform, performBytes, isLast}
-use Rattle.commands.specs.Stream.{inputLimit, snapshotRoom, lineRoom, admit, next, answersIn, answersFrom, answersOf, answers, answer as answerOf, answerBytes, finalReply, lastReply, lineAfter, textOf}
+use Rattle.commands.specs.Stream.{inputLimit, snapshotRoom, lineRoom, admit, next, answersIn, answersFrom, answersOf, answers, writeNext, nextBytes, finalReply, lastReply, lineAfter, textOf}
 use Rattle.commands.specs.Promises.{Passes, Sound, Sessions, EndsOnce, Answers, Openings, Offsets}
 use Rattle.commands.specs.declared.Session.{Session}
 use Rattle.commands.specs.declared.Performed.{Performed}
@@ -218,13 +218,13 @@ module _ (s : List ℕ) (x : Session) (room : ℕ) (d : List ℕ) (p : Performed
   unfolding lineAfter
   same-line = rw (q, e) (next-goes s x .line)
 
-  pub answer-is : record { performed = p; line = writeLine (p .reply) saved room } ≡ answerOf s x room
-  unfolding answerOf writeLine
-  answer-is = rw (same-line, q)
+  pub written-is : record { performed = p; line = writeLine (p .reply) saved room } ≡ writeNext s x room
+  unfolding writeNext writeLine
+  written-is = rw (same-line, q)
 
-  pub answer-bytes : lineBytes (p .reply) saved d ≡ answerBytes s x d
-  unfolding answerBytes lineBytes
-  answer-bytes = rw (same-line, q)
+  pub bytes-are : lineBytes (p .reply) saved d ≡ nextBytes s x d
+  unfolding nextBytes lineBytes
+  bytes-are = rw (same-line, q)
 
 -- ---- as many commands as are asked for give the same answers, once they are enough
 unless-last : (b : Bool) (l k : List Performed) → (b ≡ false → l ≡ k) → cond b [] l ≡ cond b [] k
@@ -337,9 +337,9 @@ last-later s x e =
     rw (command-by-command s x, e)
     (rw (command-by-command s (next s x .session)))
 
-pub answered : (s : List ℕ) (x : Session) (room : ℕ) → answerOf s x room .performed ≡ next s x
-unfolding answerOf
-answered s x room = refl
+pub written-next : (s : List ℕ) (x : Session) (room : ℕ) → writeNext s x room .performed ≡ next s x
+unfolding writeNext
+written-next s x room = refl
 
 pub last-admitted : (s : List ℕ) → admit s ≡ outcome-of.Accepted → lastReply (answers s) ≡ lastReply (answersFrom s start)
 unfolding answers

@@ -14,7 +14,7 @@ use Rattle.lines.specs.declared.Reply.the-variants as reply-of
 use Rattle.commands.specs.Commands.{start, rejected, perform, isLast}
 use Rattle.commands.specs.declared.Session.{Session}
 use Rattle.commands.specs.declared.Performed.{Performed}
-use Rattle.commands.specs.declared.Answered.{Answered}
+use Rattle.commands.specs.declared.Written.{Written}
 
 -- the longest input
 abbrev pub inputLimit : ℕ
@@ -77,12 +77,12 @@ unfoldable pub text : List ℕ → List ℕ
 text s = textOf (answers s)
 
 -- the call: one command and its line, and what the line's buffer then holds
-unfoldable pub answer : List ℕ → Session → ℕ → Answered
-answer s x room =
+unfoldable pub writeNext : List ℕ → Session → ℕ → Written
+writeNext s x room =
     let p = next s x in
     record { performed = p; line = writeLine (p .reply) (encoded (p .session .state)) room }
 
-unfoldable pub answerBytes : List ℕ → Session → List ℕ → List ℕ
-answerBytes s x buffer =
+unfoldable pub nextBytes : List ℕ → Session → List ℕ → List ℕ
+nextBytes s x buffer =
     let p = next s x in
     lineBytes (p .reply) (encoded (p .session .state)) buffer

@@ -24,7 +24,7 @@ use state::no_state;
 ghost use mathlib.Core.Path.{_≡_};
 ghost use lib.ListN.{length};
 ghost use Rattle.commands.specs.Commands.{start, isLast, perform, performBytes};
-ghost use Rattle.commands.specs.Stream.{admit, answer, answerBytes};
+ghost use Rattle.commands.specs.Stream.{admit, writeNext, nextBytes};
 
 // The longest input of the program.
 pub const INPUT_LIMIT: usize = 65536;
@@ -50,7 +50,7 @@ pub struct Performed {
 }
 
 // The answer to a command, and its line.
-pub struct Answered {
+pub struct Written {
     pub performed: Performed,
     pub line: Line,
 }
@@ -123,15 +123,15 @@ pub fn perform(stream: &[u8], session: Session, buffer: &mut [u8]) -> Performed
 }
 
 // One command of the program's stream, and its line at the start of a buffer.
-pub fn answer(stream: &[u8], session: Session, line: &mut [u8]) -> Answered
-    ensures answer { λ r. ⌜ r ≡ answer (now (stream .entry)) session (length (now (line .entry))) ⌝ }
-    ensures bytes { λ _. ⌜ now (line .exit) ≡ answerBytes (now (stream .entry)) session (now (line .entry)) ⌝ }
+pub fn write_next(stream: &[u8], session: Session, line: &mut [u8]) -> Written
+    ensures answer { λ r. ⌜ r ≡ writeNext (now (stream .entry)) session (length (now (line .entry))) ⌝ }
+    ensures bytes { λ _. ⌜ now (line .exit) ≡ nextBytes (now (stream .entry)) session (now (line .entry)) ⌝ }
 {
     let mut saved = [0u8; MAX_SNAPSHOT];
     let performed = perform(stream, session, &mut saved);
     let reply = performed.reply;
     let written = write_line(reply, &saved, line);
-    Answered {
+    Written {
         performed,
         line: written,
     }

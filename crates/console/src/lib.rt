@@ -1,9 +1,9 @@
 // A stream of commands played to standard output, one write for each line.
 use commands::MAX_LINE;
 use commands::admit;
-use commands::answer;
 use commands::is_last;
 use commands::start;
+use commands::write_next;
 use libc::STDOUT_FILENO;
 use lines::Line;
 use lines::Reply;
@@ -48,7 +48,7 @@ fn play_commands(s: &[u8]) -> Reply
     let mut whole = true;
     loop {
         let mut buffer = [0u8; MAX_LINE];
-        let found = answer(s, x, &mut buffer);
+        let found = write_next(s, x, &mut buffer);
         let performed = found.performed;
         let line = found.line;
         let reply = performed.reply;

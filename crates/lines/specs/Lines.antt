@@ -1,7 +1,7 @@
 -- Document 01, "The program's lines": the bytes of each line.
-use Prim.Native.Nat.{ℕ, zero, suc, _+_, _/_, _%_}
+use Prim.Native.Nat.{ℕ, zero, suc, _+_, _-_, _*_, _/_, _%_, _^_, _≤_, _<_}
 use mathlib.Core.Path.{_≡_}
-use mathlib.Core.Bool.{Bool, true, false, cond}
+use mathlib.Core.Bool.{cond}
 use mathlib.Core.List.{List, [], _∷_, _++_}
 use lib.Dec.{eqb, ltb, leb}
 use lib.IntN.{ℤ, pos, negsuc}
@@ -105,17 +105,6 @@ fieldsOf (reply-of.Saved n) = fields letterS (Hexadecimal n) Nothing Nothing
 fieldsOf (reply-of.Rejected code offset) = fields letterX (Unsigned code) (Unsigned offset) Nothing
 fieldsOf (reply-of.Ended count) = fields letterN (Unsigned count) Nothing Nothing
 
--- and by its rejection, 0 where there is none
-abbrev pub replyCode : Reply → ℕ
-replyCode (reply-of.Opened model m) = 0
-replyCode (reply-of.Residual e) = 0
-replyCode reply-of.Missing = 0
-replyCode (reply-of.Forecast h v) = 0
-replyCode (reply-of.Variance h high low) = 0
-replyCode (reply-of.Saved n) = 0
-replyCode (reply-of.Rejected code offset) = code
-replyCode (reply-of.Ended count) = 0
-
 -- the line of a reply, with the bytes that were saved
 unfoldable pub lineOf : Reply → List ℕ → List ℕ
 lineOf r saved = fieldsBytes saved (fieldsOf r)
@@ -135,6 +124,11 @@ abbrev pub lineLength : Line → ℕ
 lineLength (line-of.Bytes n) = n
 lineLength (line-of.Rejected code) = 0
 
+-- each case is told by its number and its value
+pub record LineCases (code n : ℕ) : Type 0 where
+  pub number : lineCode (line code n) ≡ code
+  pub value : code ≡ 0 → lineLength (line code n) ≡ n
+
 -- what rejects writing a line into so much room, or 0
 abbrev pub roomCode : Reply → List ℕ → ℕ → ℕ
 roomCode r saved room = unless (leb (length (lineOf r saved)) room) short-buffer
@@ -150,3 +144,21 @@ lineBytes r saved buffer = cond (eqb (roomCode r saved (length buffer)) 0) (sets
 pub record Put (entry : List ℕ) (at : ℕ) (bytes : List ℕ) (next : ℕ) (exit : List ℕ) : Type 0 where
   pub past : next ≡ at + length bytes
   pub stored : exit ≡ sets entry at bytes
+
+-- ---- what is promised of the definitions
+
+-- the number that digits stand for, after those that stand for n
+abbrev pub readFrom : ℕ → List ℕ → ℕ
+readFrom n [] = n
+readFrom n (d ∷ ds) = readFrom (n * 10 + (d - 48)) ds
+
+-- a number in decimal is read back as itself, and with a digit less a number above 0 would not fit
+pub record Decimals : Type 0 where
+  pub value : (n : ℕ) → n < 10 ^ 20 → readFrom 0 (decimal n) ≡ n
+  pub shortest : (n : ℕ) → 1 ≤ n → 10 ^ (length (decimal n) - 1) ≤ n
+  pub least : signedDecimal (negsuc 9223372036854775807)
+      ≡ 45 ∷ 57 ∷ 50 ∷ 50 ∷ 51 ∷ 51 ∷ 55 ∷ 50 ∷ 48 ∷ 51 ∷ 54 ∷ 56 ∷ 53 ∷ 52 ∷ 55 ∷ 55 ∷ 53 ∷ 56 ∷ 48 ∷ 56 ∷ []
+
+-- each case of the enum Line is told by its number and its value
+abbrev pub Cases : Type 0
+Cases = (code n : ℕ) → LineCases code n

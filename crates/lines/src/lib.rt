@@ -1,6 +1,7 @@
 // The program's lines, each in a lent buffer: document 01, "The program's lines".
 mod digits;
 mod fields;
+pub mod promises;
 
 pub use digits::magnitude;
 use fields::fields_length;

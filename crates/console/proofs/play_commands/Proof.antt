@@ -1,9 +1,9 @@
 -- `console::play_commands` meets its contract: what is left of the stream has the whole stream's last answer, and each command that is not the last moves on.
 use borrow.Author.Needs.{needs}
-use Rattle.commands.proofs.StreamLaws.{next-goes, last-here, last-later, answered}
+use Rattle.commands.proofs.StreamLaws.{next-goes, last-here, last-later, written-next}
 use Rattle.commands.specs.declared.Session.{Session}
 use Rattle.commands.specs.declared.Performed.{Performed}
-use Rattle.commands.specs.declared.Answered.{Answered}
+use Rattle.commands.specs.declared.Written.{Written}
 use Rattle.commands.specs.Stream.{next, answersFrom, lastReply}
 use Rattle.commands.specs.Commands.{isLast, start}
 use lib.ListN.{length}
@@ -25,11 +25,11 @@ start-requires c κs = search needs
 loop-holds : tie.Need-loop-holds Inv-loop μ-loop
 loop-holds c = ap (λ (x : Session). lastReply (answersFrom (c .before .before .args .s .now) x)) (c .start .ensures)
 
-slice-aggregate-answer : tie.Need-slice-aggregate-answer Inv-loop μ-loop
-slice-aggregate-answer c = search needs
+slice-aggregate-write-next : tie.Need-slice-aggregate-write-next Inv-loop μ-loop
+slice-aggregate-write-next c = search needs
 
-answer-requires : tie.Need-answer-requires Inv-loop μ-loop
-answer-requires c κs = search needs
+write-next-requires : tie.Need-write-next-requires Inv-loop μ-loop
+write-next-requires c κs = search needs
 
 slice-aggregate-show : tie.Need-slice-aggregate-show Inv-loop μ-loop
 slice-aggregate-show c = search needs
@@ -41,8 +41,8 @@ is-last-requires : tie.Need-is-last-requires Inv-loop μ-loop
 is-last-requires c κs = search needs
 
 -- the command that was answered, and whether it was the last
-performs : (c : tie.After-answer Inv-loop μ-loop) → c .answer .result .performed ≡ next (c .before .before .before .before .before .args .s .now) (c .before .before .loop .x)
-performs c = ap (λ (a : Answered). a .performed) (c .answer .ensures .0) ∙ answered _ _ _
+performs : (c : tie.After-write-next Inv-loop μ-loop) → c .write-next .result .performed ≡ next (c .before .before .before .before .before .args .s .now) (c .before .before .loop .x)
+performs c = ap (λ (a : Written). a .performed) (c .write-next .ensures .0) ∙ written-next _ _ _
 
 told : (c : tie.After-is-last Inv-loop μ-loop)
     → c .is-last .result ≡ isLast (next (c .before .before .before .before .before .before .before .before .before .before .before .args .s .now) (c .before .before .before .before .before .before .before .before .loop .x) .reply)
@@ -68,8 +68,8 @@ play-commands-spec =
     μ-loop
     start-requires
     loop-holds
-    slice-aggregate-answer
-    answer-requires
+    slice-aggregate-write-next
+    write-next-requires
     slice-aggregate-show
     show-requires
     is-last-requires

@@ -1,16 +1,16 @@
--- `commands::answer` meets its contract.
+-- `commands::write_next` meets its contract.
 use borrow.Author.Needs.{needs}
-use Rattle.commands.proofs.StreamLaws.{answer-is, answer-bytes}
-use Rattle.commands.specs.declared.Answered.{Answered}
+use Rattle.commands.proofs.StreamLaws.{written-is, bytes-are}
+use Rattle.commands.specs.declared.Written.{Written}
 use Rattle.commands.specs.declared.Performed.{Performed}
 use Rattle.lines.specs.declared.Line.{Line}
 use lib.ListN.{length}
 use mathlib.Core.Path.{ap, _∙_}
-use Rattle.commands.proofs.answer.Statement.{statement}
-use Rattle.commands.proofs.answer.Tie as tie
+use Rattle.commands.proofs.write_next.Statement.{statement}
+use Rattle.commands.proofs.write_next.Tie as tie
 
-abbrev answered : Performed → Line → Answered
-answered p l = record { performed = p; line = l }
+abbrev written : Performed → Line → Written
+written p l = record { performed = p; line = l }
 
 slice-aggregate-perform : tie.Need-slice-aggregate-perform
 slice-aggregate-perform c = search needs
@@ -34,12 +34,12 @@ returns c =
     let w = c .before .before .write-line .ensures in
     let s = a .stream .now in
     let d = a .line .now in (
-      ap (answered (p .result)) (w .0) ∙ answer-is s (a .session) (length d) d (p .result) (p .last .1 .1 .0) (p .ensures .0) (p .ensures .1),
-      w .1 ∙ answer-bytes s (a .session) (length d) d (p .result) (p .last .1 .1 .0) (p .ensures .0) (p .ensures .1),
+      ap (written (p .result)) (w .0) ∙ written-is s (a .session) (length d) d (p .result) (p .last .1 .1 .0) (p .ensures .0) (p .ensures .1),
+      w .1 ∙ bytes-are s (a .session) (length d) d (p .result) (p .last .1 .1 .0) (p .ensures .0) (p .ensures .1),
     )
 
-pub answer-spec : {M : Type 1} → statement M
-answer-spec =
+pub write-next-spec : {M : Type 1} → statement M
+write-next-spec =
     tie.close
     (tie.spec
     slice-aggregate-perform
