@@ -1,34 +1,43 @@
--- Laws of the commands outside a group: what each answers, from what its call answered.
--- Assumes nothing.
-use Prim.Native.Nat.{ℕ, zero, suc, _+_, _*_, _-_, _≤_, _<_}
-use mathlib.Core.Path.{_≡_, refl}
-use mathlib.Core.Bool.{Bool, true, false, cond, not, _&&_, _||_, false≢true, true≢false}
+-- Laws of one command: how it is decoded, what it answers, and what a save writes.
+use Prim.Native.Nat.{ℕ, zero, suc, _+_, _-_, _*_, _≤_, _<_}
+use mathlib.Core.Path.{_≡_, refl, sym, _∙_}
+use mathlib.Core.Bool.{Bool, true, false, cond, not, _&&_, _||_}
 use mathlib.Core.List.{List}
-use native.Mathlib.Nat.{le-refl}
 use native.Mathlib.Omega.{arith}
-use borrow.Author.Tests.{leb-true}
-use lib.Dec.{eqb, leb}
+use borrow.Author.Tests.{le-leb, lt-leb, leb-false, ne-eqb}
+use lib.Dec.{eqb, leb, eqb·suc-zero}
 use lib.IntN.{ℤ}
-use lib.ListN.{length, drop, getD}
+use lib.ListN.{length, drop, getD, length-drop}
 use lib.Seq.{drop-cons}
-use mir.Syntax.{w32}
-use mir.Val.{toZ}
-use Rattle.state.specs.Rejections.{unless, _then_, unknown-command, out-of-place, truncated}
+use Rattle.state.specs.Rejections.{unless, _then_, short-buffer}
+use Rattle.state.specs.States.{check}
+use Rattle.state.specs.declared.State.{State}
 use Rattle.state.specs.declared.Answer.the-variants as answer-of
 use Rattle.state.specs.declared.Outcome.the-variants as outcome-of
-use Rattle.state.proofs.Tests.{both, then-zero, unless-zero}
+use Rattle.state.proofs.Answers.{outcome-accepted}
+use Rattle.state.proofs.Tests.{then-zero}
+use Rattle.state.proofs.Passing.{bounded}
 use Rattle.ets.specs.Steps.{step, missing}
 use Rattle.ets.specs.Forecasts.{forecast}
 use Rattle.ets.specs.declared.Stepped.{Stepped}
 use Rattle.ets.specs.declared.Missed.{Missed}
 use Rattle.weights.specs.Weights.{variance}
 use Rattle.weights.specs.declared.Variance.the-variants as variance-of
+use Rattle.snapshot.specs.Answers.{lengthAnswer}
 use Rattle.snapshot.specs.Bytes.{fromBytes, unsignedAt}
-use Rattle.snapshot.specs.Snapshots.{isCommand, modelCode, levelCode, seasonsCode, seasonsRead, positionCode, openOffset, read}
-use Rattle.snapshot.specs.declared.Opened.{Opened as Group}
-use Rattle.commands.specs.Commands.{accepted, rejected, onlyInGroup, sizeOf, outsideCode, opened, taken, missed, forecasted, varied}
+use Rattle.snapshot.specs.CommandTable.{commandSize, isCommand, onlyInSnapshot, commandLength}
+use Rattle.snapshot.specs.Layout.{sizeOf}
+use Rattle.snapshot.specs.Snapshots.{openCode, openOffset, read, restOf, bytesNeeded, encoded, save, saveCode}
+use Rattle.snapshot.specs.declared.Opened.{Opened}
+use Rattle.snapshot.specs.declared.Length.the-variants as length-of
+use Rattle.snapshot.proofs.OffsetLaws.{offsets}
+use Rattle.snapshot.proofs.RoundTrip.{length-encoded}
 use Rattle.lines.specs.declared.Reply.the-variants as reply-of
+use Rattle.commands.specs.Commands.{commandCode, operands, decoded, decode, accepted, rejected, restOffset, openSnapshot, takeReading, takeMissing, giveForecast, giveVariance, saveState, act, buffered, perform, performBytes}
 use Rattle.commands.specs.declared.Session.{Session}
+use Rattle.commands.specs.declared.decoding.Command.{Command}
+use Rattle.commands.specs.declared.decoding.Command.the-variants as command-of
+use Rattle.commands.specs.declared.decoding.Decoded.{Decoded}
 
 -- ---- operands of two and of four bytes
 pub two-bytes : (s : List ℕ) (at : ℕ) → at + 2 ≤ length s → unsignedAt s at 2 ≡ getD s at 0 + 256 * getD s (at + 1) 0
@@ -49,105 +58,168 @@ four-bytes s at h =
     let d : suc (suc (suc at)) < length s = omega arith in
     rw (e, drop-cons s at 0, drop-cons s (suc at) 0, drop-cons s (suc (suc at)) 0, drop-cons s (suc (suc (suc at))) 0) (omega arith)
 
--- ---- the test of refusal 3, as the code has it
-pub out-of-group : (a b : Bool) → (a || not b) ≡ true → (not a && b) ≡ false
-out-of-group true b e = refl
-out-of-group false true e = absurd (false≢true e)
-out-of-group false false e = refl
+-- ---- a length that was told: of a command by the table, of a snapshot by its state
+module _ (k n : ℕ) where
+  of-bytes : (code : ℕ) → lengthAnswer code k ≡ length-of.Bytes n → (code ≡ 0) × (n ≡ k)
+  of-bytes zero e = (refl, cc)
+  of-bytes (suc code) e =
+      let f = rw (eqb·suc-zero code) at e in
+      let z : _≡_ {A = ℕ} 0 1 = cc in
+      absurd (omega arith)
 
-pub in-place : (a b : Bool) → (a || not b) ≡ false → (not a && b) ≡ true
-in-place true b e = absurd (true≢false e)
-in-place false true e = refl
-in-place false false e = absurd (true≢false e)
+  of-rejected : (code : ℕ) → lengthAnswer code k ≡ length-of.Rejected n → (code ≡ 0 → ⊥) × (n ≡ code)
+  of-rejected zero e =
+      let z : _≡_ {A = ℕ} 0 1 = cc in
+      absurd (omega arith)
+  of-rejected (suc code) e =
+      let f = rw (eqb·suc-zero code) at e in
+      (λ z. omega arith, cc)
 
--- ---- a command that nothing has rejected has its operands and an open state
-module _ (s : List ℕ) (x : Session) (e : outsideCode s x ≡ 0) where
+known-is : (t : Bool) → unless t 2 ≡ 0 → t ≡ true
+known-is true e = refl
+known-is false e = absurd (omega arith)
+
+unknown-is : (t : Bool) → (unless t 2 ≡ 0 → ⊥) → t ≡ false
+unknown-is true e = absurd (e refl)
+unknown-is false e = refl
+
+pub table-bytes : (b n : ℕ) → commandLength b ≡ length-of.Bytes n → (isCommand b ≡ true) × (n ≡ commandSize b)
+unfolding commandLength
+table-bytes b n e =
+    let q = of-bytes (commandSize b) n (unless (isCommand b) 2) e in
+    (known-is (isCommand b) (q .0), q .1)
+
+pub table-rejected : (b n : ℕ) → commandLength b ≡ length-of.Rejected n → (isCommand b ≡ false) × (n ≡ 2)
+unfolding commandLength
+table-rejected b n e =
+    let q = of-rejected (commandSize b) n (unless (isCommand b) 2) e in
+    let k = unknown-is (isCommand b) (q .0) in
+    (k, rw k at (q .1))
+
+pub needed : (s : State) (n : ℕ) → check s ≡ 0 → bytesNeeded s ≡ length-of.Bytes n → n ≡ length (encoded s)
+unfolding bytesNeeded
+needed s n z e = of-bytes (sizeOf (s .period)) n (check s) e .1 ∙ sym (length-encoded s)
+
+pub not-rejected : (s : State) (n : ℕ) → check s ≡ 0 → bytesNeeded s ≡ length-of.Rejected n → ⊥
+unfolding bytesNeeded
+not-rejected s n z e = of-rejected (sizeOf (s .period)) n (check s) e .0 z
+
+pub snapshot-most : (s : State) → check s ≡ 0 → length (encoded s) ≤ 526
+snapshot-most s e = omega (arith, length-encoded s, bounded s e .period)
+
+pub saves : (s : State) (room : ℕ) → save s room ≡ outcome-of.Accepted → (check s ≡ 0) × (saveCode s room ≡ 0)
+unfolding save saveCode
+saves s room e =
+    let z = outcome-accepted (saveCode s room) e in
+    (then-zero (check s) (unless (leb (sizeOf (s .period)) room) short-buffer) z .0, z)
+
+-- ---- a command is decoded: the end, then 2, 3, 4, then its operands
+module _ (s : List ℕ) (at : ℕ) (active : Bool) where
   abbrev b : ℕ
-  b = getD s (x .at) 0
+  b = getD s at 0
 
-  abbrev fits : Bool
-  fits = leb (sizeOf b) (length s - x .at)
+  abbrev Due : Bool → Type 0
+  Due t = (not (onlyInSnapshot b) && (active || eqb b 0x10)) ≡ t
 
-  parts : (unless (not (onlyInGroup b) && x .active) out-of-place ≡ 0) × (unless fits truncated ≡ 0)
-  unfolding outsideCode
-  parts =
-      let due = unless (not (onlyInGroup b) && x .active) out-of-place in
-      then-zero due (unless fits truncated) (then-zero (unless (isCommand b) unknown-command) (due then unless fits truncated) e .1)
+  pub decode-end : length s ≤ at → decode s at active ≡ decoded command-of.End at
+  unfolding decode
+  decode-end h = rw (le-leb (length s) at h)
 
-  pub room : sizeOf b ≤ length s - x .at
-  room = leb-true (sizeOf b) (length s - x .at) (unless-zero fits 3 (parts .1))
+  pub inside : decode s at active .command ≡ command-of.Open → at ≤ length s
+  unfolding decode
+  inside e = go (leb (length s) at) refl e
+    where
+      go : (t : Bool) → leb (length s) at ≡ t
+          → cond t (decoded command-of.End at) (cond (eqb (commandCode s at active) 0) (decoded (operands s at) (at + commandSize b)) (decoded (command-of.Rejected (commandCode s at active)) at)) .command ≡ command-of.Open
+          → at ≤ length s
+      go true q e =
+          let z : _≡_ {A = ℕ} 0 1 = cc in
+          absurd (omega arith)
+      go false q e = omega (arith, leb-false (length s) at q)
 
-  pub active : x .active ≡ true
-  active = both (not (onlyInGroup b)) (x .active) (unless-zero (not (onlyInGroup b) && x .active) 2 (parts .0)) .1
+  module _ (h : at < length s) where
+    pub decode-unknown : isCommand b ≡ false → decode s at active ≡ decoded (command-of.Rejected 2) at
+    unfolding decode commandCode
+    decode-unknown u = rw (lt-leb (length s) at h, u)
 
--- ---- the offset that reading a group answers is small, so that the sum with the command's fits
-seasons-most : (s : List ℕ) (n : ℕ) → seasonsRead s n ≤ n
-unfolding seasonsRead
-seasons-most s zero = le-refl 0
-seasons-most s (suc n) = either (eqb (seasonsCode s (suc n)) 0) (seasonsRead s n) n (seasons-most s n)
-  where
-    either : (t : Bool) (k n : ℕ) → k ≤ n → cond t (suc n) k ≤ suc n
-    either true k n h = le-refl (suc n)
-    either false k n h = omega arith
+    pub decode-stray : isCommand b ≡ true → Due false → decode s at active ≡ decoded (command-of.Rejected 3) at
+    unfolding decode commandCode
+    decode-stray u v = rw (lt-leb (length s) at h, u, v)
 
-pub offset-most : (s : List ℕ) → openOffset s ≤ 46 + 10 * getD s 2 0
-unfolding openOffset
-offset-most s =
-    each (eqb (modelCode s) 0) (eqb (levelCode s) 0) (eqb (seasonsCode s (getD s 2 0)) 0) (eqb (positionCode s (getD s 2 0)) 0) (getD s 2 0) (seasonsRead s (getD s 2 0)) (seasons-most s (getD s 2 0))
-  where
-    each : (a b c d : Bool) (m k : ℕ) → k ≤ m → cond a (cond b (cond c (cond d (46 + 10 * m) (36 + 10 * m)) (36 + 10 * k)) 19) 0 ≤ 46 + 10 * m
-    each false b c d m k h = omega arith
-    each true false c d m k h = omega arith
-    each true true false d m k h = omega arith
-    each true true true false m k h = omega arith
-    each true true true true m k h = omega arith
+    pub decode-short : isCommand b ≡ true → Due true → length s - at < commandSize b → decode s at active ≡ decoded (command-of.Rejected 4) at
+    unfolding decode commandCode
+    decode-short u v w = rw (lt-leb (length s) at h, u, v, lt-leb (commandSize b) (length s - at) w)
 
--- ---- what each command answers
-pub opened-accepted : (s : List ℕ) (x : Session) (g : Group) → g ≡ read (drop (x .at) s) → g .outcome ≡ outcome-of.Accepted
-    → opened s x ≡ accepted (reply-of.Opened (g .state .model) (g .state .period)) (g .offset) (g .state) x
-unfolding opened
-opened-accepted s x g q h = rw (← q, h)
+    pub decode-whole : isCommand b ≡ true → Due true → commandSize b ≤ length s - at → decode s at active ≡ decoded (operands s at) (at + commandSize b)
+    unfolding decode commandCode
+    decode-whole u v w = rw (lt-leb (length s) at h, u, v, le-leb (commandSize b) (length s - at) w)
 
-pub opened-rejected : (s : List ℕ) (x : Session) (g : Group) (n : ℕ) → g ≡ read (drop (x .at) s) → g .outcome ≡ outcome-of.Rejected n
-    → opened s x ≡ rejected n (x .at + g .offset) x
-unfolding opened
-opened-rejected s x g n q h = rw (← q, h)
+-- ---- what each command answers, by what its call answered
+pub rest-begins : (s : List ℕ) (at : ℕ) → at ≤ length s → length s - length (restOf (drop at s)) ≡ restOffset s at
+unfolding restOf
+rest-begins s at h =
+    omega (arith, length-drop (openOffset (drop at s)) (drop at s), length-drop at s, offsets (drop at s) .within)
 
-pub missed-accepted : (x : Session) (t : Missed) → t ≡ missing (x .state) → t .outcome ≡ outcome-of.Accepted → missed x ≡ accepted reply-of.Missing 1 (t .state) x
-unfolding missed
-missed-accepted x t q h = rw (← q, h)
+pub opened-rejected : (s : List ℕ) (x : Session) (code : ℕ) → code ≡ openCode (drop (x .at) s) → (code ≡ 0 → ⊥)
+    → openSnapshot s x ≡ rejected code (restOffset s (x .at)) x
+unfolding openSnapshot
+opened-rejected s x code q h = rw (← q, ne-eqb code 0 h)
 
-pub missed-rejected : (x : Session) (t : Missed) (n : ℕ) → t ≡ missing (x .state) → t .outcome ≡ outcome-of.Rejected n → missed x ≡ rejected n (x .at) x
-unfolding missed
-missed-rejected x t n q h = rw (← q, h)
+pub opened-accepted : (s : List ℕ) (x : Session) (g : Opened) → openCode (drop (x .at) s) ≡ 0 → g ≡ read (drop (x .at) s)
+    → openSnapshot s x ≡ accepted (reply-of.Opened (g .state .model) (g .state .period)) (restOffset s (x .at)) (g .state)
+unfolding openSnapshot
+opened-accepted s x g z q = rw (z, ← q)
 
-module _ (s : List ℕ) (x : Session) where
-  pub taken-accepted : (t : Stepped) (e : ℤ) → t ≡ step (x .state) (toZ w32 (unsignedAt s (x .at + 1) 4)) → t .residual ≡ answer-of.Accepted e
-      → taken s x ≡ accepted (reply-of.Residual e) 5 (t .state) x
-  unfolding taken
-  taken-accepted t e q h = rw (← q, h)
+module _ (x : Session) (next : ℕ) where
+  pub reading-accepted : (y : ℤ) (t : Stepped) (e : ℤ) → t ≡ step (x .state) y → t .residual ≡ answer-of.Accepted e
+      → takeReading x next y ≡ accepted (reply-of.Residual e) next (t .state)
+  unfolding takeReading
+  reading-accepted y t e q h = rw (← q, h)
 
-  pub taken-rejected : (t : Stepped) (n : ℕ) → t ≡ step (x .state) (toZ w32 (unsignedAt s (x .at + 1) 4)) → t .residual ≡ answer-of.Rejected n
-      → taken s x ≡ rejected n (x .at) x
-  unfolding taken
-  taken-rejected t n q h = rw (← q, h)
+  pub reading-rejected : (y : ℤ) (t : Stepped) (n : ℕ) → t ≡ step (x .state) y → t .residual ≡ answer-of.Rejected n
+      → takeReading x next y ≡ rejected n (x .at) x
+  unfolding takeReading
+  reading-rejected y t n q h = rw (← q, h)
 
-  pub forecast-accepted : (h : ℕ) (v : ℤ) → h ≡ unsignedAt s (x .at + 1) 2 → forecast (x .state) h ≡ answer-of.Accepted v
-      → forecasted s x ≡ accepted (reply-of.Forecast h v) 3 (x .state) x
-  unfolding forecasted
-  forecast-accepted h v q e = rw (← q, e)
+  pub missing-accepted : (t : Missed) → t ≡ missing (x .state) → t .outcome ≡ outcome-of.Accepted → takeMissing x next ≡ accepted reply-of.Missing next (t .state)
+  unfolding takeMissing
+  missing-accepted t q h = rw (← q, h)
 
-  pub forecast-rejected : (h n : ℕ) → h ≡ unsignedAt s (x .at + 1) 2 → forecast (x .state) h ≡ answer-of.Rejected n
-      → forecasted s x ≡ rejected n (x .at) x
-  unfolding forecasted
-  forecast-rejected h n q e = rw (← q, e)
+  pub missing-rejected : (t : Missed) (n : ℕ) → t ≡ missing (x .state) → t .outcome ≡ outcome-of.Rejected n → takeMissing x next ≡ rejected n (x .at) x
+  unfolding takeMissing
+  missing-rejected t n q h = rw (← q, h)
 
-  pub variance-accepted : (h k high low : ℕ) → h ≡ unsignedAt s (x .at + 1) 2 → k ≡ unsignedAt s (x .at + 3) 4 → variance (x .state) h k ≡ variance-of.Accepted high low
-      → varied s x ≡ accepted (reply-of.Variance h high low) 7 (x .state) x
-  unfolding varied
-  variance-accepted h k high low q r e = rw (← q, ← r, e)
+  pub forecast-accepted : (h : ℕ) (v : ℤ) → forecast (x .state) h ≡ answer-of.Accepted v → giveForecast x next h ≡ accepted (reply-of.Forecast h v) next (x .state)
+  unfolding giveForecast
+  forecast-accepted h v e = rw e
 
-  pub variance-rejected : (h k n : ℕ) → h ≡ unsignedAt s (x .at + 1) 2 → k ≡ unsignedAt s (x .at + 3) 4 → variance (x .state) h k ≡ variance-of.Rejected n
-      → varied s x ≡ rejected n (x .at) x
-  unfolding varied
-  variance-rejected h k n q r e = rw (← q, ← r, e)
+  pub forecast-rejected : (h n : ℕ) → forecast (x .state) h ≡ answer-of.Rejected n → giveForecast x next h ≡ rejected n (x .at) x
+  unfolding giveForecast
+  forecast-rejected h n e = rw e
+
+  pub variance-accepted : (h k high low : ℕ) → variance (x .state) h k ≡ variance-of.Accepted high low
+      → giveVariance x next h k ≡ accepted (reply-of.Variance h high low) next (x .state)
+  unfolding giveVariance
+  variance-accepted h k high low e = rw e
+
+  pub variance-rejected : (h k n : ℕ) → variance (x .state) h k ≡ variance-of.Rejected n → giveVariance x next h k ≡ rejected n (x .at) x
+  unfolding giveVariance
+  variance-rejected h k n e = rw e
+
+  pub save-accepted : (room : ℕ) → save (x .state) room ≡ outcome-of.Accepted → saveState x next room ≡ accepted (reply-of.Saved (length (encoded (x .state)))) next (x .state)
+  unfolding saveState
+  save-accepted room e = rw e
+
+  pub save-rejected : (room n : ℕ) → save (x .state) room ≡ outcome-of.Rejected n → saveState x next room ≡ rejected n (x .at) x
+  unfolding saveState
+  save-rejected room n e = rw e
+
+-- ---- the command that was decoded is performed
+module _ (s : List ℕ) (x : Session) (d : Decoded) (k : Command) (q : d ≡ decode s (x .at) (x .active)) (e : d .command ≡ k) where
+  pub performs : (room : ℕ) → perform s x room ≡ act s x room (d .next) k
+  unfolding perform
+  performs room = rw (← q, e)
+
+  pub leaves : (buffer : List ℕ) → performBytes s x buffer ≡ buffered x buffer k
+  unfolding performBytes
+  leaves buffer = rw (← q, e)

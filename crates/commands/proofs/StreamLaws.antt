@@ -1,38 +1,49 @@
 -- The stream as a whole: each command moves on and stays within the bytes, the state that is open passes its checks, and going command by command
 -- gives the whole stream's answers, of which the last and no other is X or N.
--- Assumes nothing.
 use Prim.Native.Nat.{ℕ, zero, suc, _+_, _-_, _≤_, _<_}
-use mathlib.Core.Path.{_≡_, refl, ap, _∙_}
-use mathlib.Core.Bool.{Bool, true, false, cond, true≢false, false≢true}
-use mathlib.Core.List.{List, [], _∷_}
+use mathlib.Core.Path.{_≡_, refl, sym, ap, _∙_}
+use mathlib.Core.Bool.{Bool, true, false, cond, not, _&&_, _||_, true≢false, false≢true}
+use mathlib.Core.List.{List, [], _∷_, _++_}
+use native.Mathlib.Nat.{zero-add}
 use native.Mathlib.Omega.{arith}
-use borrow.Author.Tests.{eqb-true, leb-false}
-use lib.Dec.{eqb, ltb, leb, eqb·suc-zero}
+use borrow.Author.Tests.{eqb-true, leb-true, leb-false, lt-leb}
+use lib.Dec.{eqb, leb, eqb·suc-zero}
 use lib.IntN.{ℤ}
-use lib.ListN.{length, length-drop, length-set, drop, getD, set}
-use mir.Syntax.{w32}
-use mir.Val.{toZ}
-use Rattle.state.specs.Rejections.{outcome, answer}
+use lib.ListN.{length, length-drop, length-set, length-replicate, take, drop, getD, set, replicate}
+use lib.Seq.{sets, sets-eq, take-at, take-length}
+use Rattle.state.specs.Rejections.{unless, _then_, outcome, answer, input-too-long, out-of-place, truncated, unknown-command, short-buffer}
 use Rattle.state.specs.Models.{hasSeason}
 use Rattle.state.specs.States.{check}
 use Rattle.state.specs.declared.State.{State}
+use Rattle.state.specs.declared.Outcome.{Outcome}
+use Rattle.state.specs.declared.Outcome.the-variants as outcome-of
+use Rattle.state.proofs.Tests.{both, then-zero, unless-zero}
 use Rattle.ets.specs.Steps.{step, stepCode, residualOf, newSeason, newSeasonal, missing, missingCode}
 use Rattle.ets.specs.Forecasts.{forecast, forecastCode, forecastOf}
 use Rattle.ets.proofs.Kept.{reading-kept, missing-kept}
 use Rattle.weights.specs.Weights.{variance}
 use Rattle.weights.specs.declared.Variance.{Variance}
 use Rattle.weights.specs.declared.Variance.the-variants as variance-of
-use Rattle.snapshot.specs.Bytes.{unsignedAt}
-use Rattle.snapshot.specs.Snapshots.{openCode, read}
-use Rattle.snapshot.proofs.RoundTrip.{accepted-size, accepted-passes, length-decoded}
-use Rattle.lines.specs.Lines.{lineOf, replyCode, writeLine}
+use Rattle.snapshot.specs.CommandTable.{commandSize, isCommand, onlyInSnapshot}
+use Rattle.snapshot.specs.Layout.{sizeOf}
+use Rattle.snapshot.specs.Snapshots.{openCode, openOffset, decoded, read, encoded, save, saveCode, savedBytes}
+use Rattle.snapshot.proofs.Accepting.{accepted-size}
+use Rattle.snapshot.proofs.OffsetLaws.{offsets}
+use Rattle.snapshot.proofs.RoundTrip.{accepted-passes, length-decoded, length-encoded}
+use Rattle.lines.specs.Lines.{fieldsBytes, lineOf, writeLine, lineBytes}
 use Rattle.lines.specs.declared.Reply.{Reply}
+use Rattle.lines.specs.declared.Reply.the-variants as reply-of
 use Rattle.lines.specs.declared.Line.the-variants as line-of
-use Rattle.lines.proofs.LineLaws.{line-most, long-enough}
-use Rattle.commands.specs.Commands.{start, accepted, rejected, concluded, answered, outsideCode, opened, taken, missed, forecasted, varianceReply, varied, saved, outside, perform, isLast, answersIn, answersFrom, answers, finalReply, lastReply}
+use Rattle.lines.proofs.LineLaws.{savedCount, line-most, long-enough}
+use Rattle.commands.specs.Commands.{start, stopped, accepted, rejected, byOutcome, byAnswer, byVariance, commandCode, operands, decode, finish, restOffset, openSnapshot, takeReading, takeMissing, giveForecast, giveVariance, saveState, act, buffered, perform, performBytes, isLast}
+use Rattle.commands.specs.Stream.{inputLimit, snapshotRoom, lineRoom, admit, next, answersIn, answersFrom, answersOf, answers, writeNext, nextBytes, finalReply, lastReply, lineAfter, textOf}
+use Rattle.commands.specs.Promises.{Passes, Sound, Sessions, EndsOnce, Answers, Openings, Offsets}
 use Rattle.commands.specs.declared.Session.{Session}
 use Rattle.commands.specs.declared.Performed.{Performed}
-use Rattle.commands.proofs.CommandLaws.{room, active}
+use Rattle.commands.specs.declared.decoding.Decoded.{Decoded}
+use Rattle.commands.specs.declared.decoding.Command.{Command}
+use Rattle.commands.specs.declared.decoding.Command.the-variants as command-of
+use Rattle.commands.proofs.CommandLaws.{snapshot-most, performs, opened-rejected, inside}
 
 -- ---- what holds on both sides of a test holds of it
 pick : {A : Type 0} (P : A → Type 0) (b : Bool) (p q : A) → (b ≡ true → P p) → (b ≡ false → P q) → P (cond b p q)
@@ -40,28 +51,20 @@ pick P true p q f g = f refl
 pick P false p q f g = g refl
 
 module _ (P : Performed → Type 0) where
-  on-outcome : (code : ℕ) (a : Performed) (r : ℕ → Performed) → (code ≡ 0 → P a) → ((n : ℕ) → P (r n)) → P (concluded (outcome code) a r)
+  on-outcome : (code : ℕ) (a : Performed) (r : ℕ → Performed) → (code ≡ 0 → P a) → ((n : ℕ) → P (r n)) → P (byOutcome (outcome code) a r)
   on-outcome zero a r f g = f refl
   on-outcome (suc code) a r f g = rw (eqb·suc-zero code) (g (suc code))
 
-  on-answer : (code : ℕ) (v : ℤ) (a : ℤ → Performed) (r : ℕ → Performed) → (code ≡ 0 → P (a v)) → ((n : ℕ) → P (r n)) → P (answered (answer code v) a r)
+  on-answer : (code : ℕ) (v : ℤ) (a : ℤ → Performed) (r : ℕ → Performed) → (code ≡ 0 → P (a v)) → ((n : ℕ) → P (r n)) → P (byAnswer (answer code v) a r)
   on-answer zero v a r f g = f refl
   on-answer (suc code) v a r f g = rw (eqb·suc-zero code) (g (suc code))
 
-  on-variance : (v : Variance) (h : ℕ) (x : Session) → ((high low : ℕ) → P (varianceReply (variance-of.Accepted high low) h x)) → ((n : ℕ) → P (rejected n (x .at) x))
-      → P (varianceReply v h x)
-  on-variance (variance-of.Accepted high low) h x f g = f high low
-  on-variance (variance-of.Rejected n) h x f g = g n
+  on-variance : (v : Variance) (a : ℕ → ℕ → Performed) (r : ℕ → Performed) → ((high low : ℕ) → P (a high low)) → ((n : ℕ) → P (r n)) → P (byVariance v a r)
+  on-variance (variance-of.Accepted high low) a r f g = f high low
+  on-variance (variance-of.Rejected n) a r f g = g n
 
 -- ---- a state that is open passes its checks
-pub record Passes (t : State) : Type 0 where
-  pub checked : check t ≡ 0
-  pub cells : length (t .seasonal) ≡ 48
-
-pub record Sound (x : Session) : Type 0 where
-  pub passes : x .active ≡ true → Passes (x .state)
-
-pub start-sound : Sound start
+start-sound : Sound start
 unfolding start
 start-sound = record { passes = λ e. absurd (false≢true e) }
 
@@ -79,64 +82,149 @@ missing-passes : (t : State) → Passes t → missingCode t ≡ 0 → Passes (mi
 unfolding missing
 missing-passes t p z = rw z (record { checked = missing-kept t z; cells = p .cells })
 
--- ---- a command that is not the last answer moves on and stays within the bytes, and what is open stays sound
-pub record Goes (s : List ℕ) (x : Session) (p : Performed) : Type 0 where
+-- ---- the line of a save, of the buffer that it was written into
+front : (d xs : List ℕ) → length xs ≤ length d → take (length xs) (sets d 0 xs) ≡ take (length xs) xs
+front d xs h = rw (sets-eq xs d 0 (rw (zero-add (length xs)) h)) (take-at xs _ (length xs) refl ∙ sym (take-length xs))
+
+save-room : (t : State) (room : ℕ) → saveCode t room ≡ 0 → length (encoded t) ≤ room
+unfolding saveCode
+save-room t room z =
+    let q = then-zero (check t) (unless (leb (sizeOf (t .period)) room) short-buffer) z .1 in
+    rw (length-encoded t) (leb-true (sizeOf (t .period)) room (unless-zero (leb (sizeOf (t .period)) room) 11 q))
+
+saved-line : (t : State) (d : List ℕ) → saveCode t (length d) ≡ 0
+    → lineOf (reply-of.Saved (length (encoded t))) (savedBytes t d) ≡ lineOf (reply-of.Saved (length (encoded t))) (encoded t)
+unfolding lineOf fieldsBytes savedBytes
+saved-line t d z = rw (z, front d (encoded t) (save-room t (length d) z))
+
+save-check : (t : State) (room : ℕ) → saveCode t room ≡ 0 → check t ≡ 0
+unfolding saveCode
+save-check t room z = then-zero (check t) (unless (leb (sizeOf (t .period)) room) short-buffer) z .0
+
+-- ---- a command that is not the last answer moves on and stays within the bytes, what is open stays sound, and its line is that of the state that stands
+pub record Goes (s : List ℕ) (x : Session) (buffer : List ℕ) (p : Performed) : Type 0 where
   pub moves : isLast (p .reply) ≡ false → (x .at < p .session .at) × (p .session .at ≤ length s)
   pub sound : Sound x → Sound (p .session)
-  pub writes : replyCode (p .reply) (p .session .state) ≡ 0
+  pub saved : savedCount (p .reply) ≤ 526
+  pub line : lineOf (p .reply) buffer ≡ lineAfter p
 
-module _ (s : List ℕ) (x : Session) where
-  stays : (n offset : ℕ) → Goes s x (rejected n offset x)
-  stays n offset = record { moves = λ e. absurd (true≢false e); sound = λ p. p; writes = refl }
+module _ (s : List ℕ) (x : Session) (d : List ℕ) where
+  stays : (n offset : ℕ) → Goes s x d (rejected n offset x)
+  unfolding lineAfter lineOf fieldsBytes
+  stays n offset = record { moves = λ e. absurd (true≢false e); sound = λ p. p; saved = omega arith; line = refl }
 
-  goes : (r : Reply) (size : ℕ) (t : State) → 0 < size → x .at + size ≤ length s → (Sound x → Passes t) → replyCode r t ≡ 0 → Goes s x (accepted r size t x)
-  goes r size t h k f w = record { moves = λ e. (omega arith, k); sound = λ p. record { passes = λ _. f p }; writes = w }
+  goes : (r : Reply) (to : ℕ) (t : State) → x .at < to → to ≤ length s → (Sound x → Passes t) → savedCount r ≤ 526 → lineOf r d ≡ lineOf r (encoded t) → Goes s x d (accepted r to t)
+  unfolding lineAfter
+  goes r to t h k f n e = record { moves = λ _. (h, k); sound = λ p. record { passes = λ _. f p }; saved = n; line = e }
 
-  opened-goes : x .at < length s → Goes s x (opened s x)
-  unfolding opened read
-  opened-goes h =
+  finish-goes : Goes s x d (finish x)
+  unfolding finish lineAfter lineOf fieldsBytes
+  finish-goes = record { moves = λ e. absurd (true≢false e); sound = λ p. p; saved = omega arith; line = refl }
+
+  open-goes : x .at < length s → Goes s x d (openSnapshot s x)
+  unfolding openSnapshot read lineOf fieldsBytes
+  open-goes h =
       let t = drop (x .at) s in
-      on-outcome (Goes s x) (openCode t) _ _
-      (λ z. let q = accepted-size t z in goes _ _ _ (omega arith) (omega (arith, length-drop (x .at) s)) (λ _. rw z (record { checked = accepted-passes t z; cells = length-decoded t })) refl)
-      (λ n. stays n _)
+      pick (Goes s x d) (eqb (openCode t) 0) _ _
+      (λ q. let z = eqb-true (openCode t) 0 q in let k = accepted-size t z in
+      goes _ _ _ (omega arith) (omega (arith, length-drop (x .at) s)) (λ _. rw z (record { checked = accepted-passes t z; cells = length-decoded t })) (omega arith) refl)
+      (λ _. stays _ _)
 
-  outside-goes : x .at < length s → outsideCode s x ≡ 0 → Goes s x (outside s x)
-  unfolding outside taken step missed missing forecasted forecast varied saved
-  outside-goes h e =
-      let b = getD s (x .at) 0 in
-      let t = x .state in
-      let y = toZ w32 (unsignedAt s (x .at + 1) 4) in
-      let k = room s x e in
-      let same : Sound x → Passes t = λ p. p .passes (active s x e) in
-      pick (Goes s x) (eqb b 0x20) _ _
-      (λ q. let f = rw (eqb-true b 0x20 q) at k in
-      on-answer (Goes s x) (stepCode t y) (residualOf t y) _ _ (λ z. goes _ 5 _ (omega arith) (omega arith) (λ p. reading-passes t y (same p) z) refl) (λ n. stays n _))
-      (λ _. pick (Goes s x) (eqb b 0x21) _ _
-      (λ q. on-outcome (Goes s x) (missingCode t) _ _ (λ z. goes _ 1 _ (omega arith) (omega arith) (λ p. missing-passes t (same p) z) refl) (λ n. stays n _))
-      (λ _. pick (Goes s x) (eqb b 0x30) _ _
-      (λ q. let f = rw (eqb-true b 0x30 q) at k in let j = unsignedAt s (x .at + 1) 2 in
-      on-answer (Goes s x) (forecastCode t j) (forecastOf t j) _ _ (λ z. goes _ 3 _ (omega arith) (omega arith) same refl) (λ n. stays n _))
-      (λ _. pick (Goes s x) (eqb b 0x31) _ _
-      (λ q. let f = rw (eqb-true b 0x31 q) at k in let j = unsignedAt s (x .at + 1) 2 in
-      on-variance (Goes s x) (variance t j (unsignedAt s (x .at + 3) 4)) j x (λ high low. goes _ 7 _ (omega arith) (omega arith) same refl) (λ n. stays n _))
-      (λ _. pick (Goes s x) (eqb (check t) 0) _ _ (λ z. goes _ 1 _ (omega arith) (omega arith) same (eqb-true _ 0 z)) (λ _. stays _ _)))))
+  module _ (to : ℕ) (h : x .at < to) (k : to ≤ length s) (same : Sound x → Passes (x .state)) where
+    reading-goes : (y : ℤ) → Goes s x d (takeReading x to y)
+    unfolding takeReading step lineOf fieldsBytes
+    reading-goes y =
+        on-answer (Goes s x d) (stepCode (x .state) y) (residualOf (x .state) y) _ _ (λ z. goes _ to _ h k (λ p. reading-passes (x .state) y (same p) z) (omega arith) refl) (λ n. stays n _)
 
-  pub perform-goes : Goes s x (perform s x)
-  unfolding perform
+    missing-goes : Goes s x d (takeMissing x to)
+    unfolding takeMissing missing lineOf fieldsBytes
+    missing-goes =
+        on-outcome (Goes s x d) (missingCode (x .state)) _ _ (λ z. goes _ to _ h k (λ p. missing-passes (x .state) (same p) z) (omega arith) refl) (λ n. stays n _)
+
+    forecast-goes : (j : ℕ) → Goes s x d (giveForecast x to j)
+    unfolding giveForecast forecast lineOf fieldsBytes
+    forecast-goes j =
+        on-answer (Goes s x d) (forecastCode (x .state) j) (forecastOf (x .state) j) _ _ (λ z. goes _ to _ h k same (omega arith) refl) (λ n. stays n _)
+
+    variance-goes : (j v : ℕ) → Goes s x d (giveVariance x to j v)
+    unfolding giveVariance lineOf fieldsBytes
+    variance-goes j v = on-variance (Goes s x d) (variance (x .state) j v) _ _ (λ high low. goes _ to _ h k same (omega arith) refl) (λ n. stays n _)
+
+save-goes : (s : List ℕ) (x : Session) (d : List ℕ) (to : ℕ) → x .at < to → to ≤ length s → (Sound x → Passes (x .state))
+    → Goes s x (savedBytes (x .state) d) (saveState x to (length d))
+unfolding saveState save
+save-goes s x d to h k same =
+    on-outcome (Goes s x (savedBytes (x .state) d)) (saveCode (x .state) (length d)) _ _
+    (λ z. goes s x (savedBytes (x .state) d) _ to _ h k same (snapshot-most (x .state) (save-check (x .state) (length d) z)) (saved-line (x .state) d z))
+    (λ n. stays s x (savedBytes (x .state) d) n _)
+
+-- ---- a command that was decoded has its bytes, and an open state unless it opens one
+active-is : (a b : Bool) → (a || b) ≡ true → b ≡ false → a ≡ true
+active-is true b e f = refl
+active-is false true e f = absurd (true≢false f)
+active-is false false e f = absurd (false≢true e)
+
+size-least : (n : ℕ) → not (eqb n 0) ≡ true → 0 < n
+size-least zero e = absurd (false≢true e)
+size-least (suc n) e = omega arith
+
+module _ (s : List ℕ) (x : Session) (d : List ℕ) where
+  abbrev b : ℕ
+  b = getD s (x .at) 0
+
+  abbrev After : Decoded → Type 0
+  After k = Goes s x (buffered x d (k .command)) (act s x (length d) (k .next) (k .command))
+
+  operands-go : x .at < length s → commandCode s (x .at) (x .active) ≡ 0 → After (record { command = operands s (x .at); next = x .at + commandSize b })
+  unfolding operands commandCode isCommand
+  operands-go h e =
+      let c2 = then-zero (unless (isCommand b) unknown-command) (unless (not (onlyInSnapshot b) && (x .active || eqb b 0x10)) out-of-place then unless (leb (commandSize b) (length s - x .at)) truncated) e in
+      let c3 = then-zero (unless (not (onlyInSnapshot b) && (x .active || eqb b 0x10)) out-of-place) (unless (leb (commandSize b) (length s - x .at)) truncated) (c2 .1) in
+      let due = both (not (onlyInSnapshot b)) (x .active || eqb b 0x10) (unless-zero _ 2 (c3 .0)) .1 in
+      let n = leb-true (commandSize b) (length s - x .at) (unless-zero _ 3 (c3 .1)) in
+      let m = size-least (commandSize b) (unless-zero (isCommand b) 1 (c2 .0)) in
+      let to : ℕ = x .at + commandSize b in
+      let l : x .at < to = omega arith in
+      let k : to ≤ length s = omega arith in
+      let open-state : eqb b 0x10 ≡ false → Sound x → Passes (x .state) = λ q p. p .passes (active-is (x .active) (eqb b 0x10) due q) in
+      let P : Command → Type 0 = λ c. After (record { command = c; next = to }) in
+      pick P (eqb b 0x10) _ _ (λ _. open-goes s x d h)
+      (λ q. pick P (eqb b 0x20) _ _ (λ _. reading-goes s x d to l k (open-state q) _)
+      (λ _. pick P (eqb b 0x21) _ _ (λ _. missing-goes s x d to l k (open-state q))
+      (λ _. pick P (eqb b 0x30) _ _ (λ _. forecast-goes s x d to l k (open-state q) _)
+      (λ _. pick P (eqb b 0x31) _ _ (λ _. variance-goes s x d to l k (open-state q) _ _)
+      (λ _. save-goes s x d to l k (open-state q))))))
+
+  pub perform-goes : Goes s x (performBytes s x d) (perform s x (length d))
+  unfolding perform performBytes decode
   perform-goes =
-      pick (Goes s x) (ltb 65536 (length s)) _ _ (λ _. stays _ _)
-      (λ _. pick (Goes s x) (leb (length s) (x .at)) _ _ (λ _. record { moves = λ e. absurd (true≢false e); sound = λ p. p; writes = refl })
-      (λ q. let h = leb-false (length s) (x .at) q in pick (Goes s x) (eqb (getD s (x .at) 0) 0x10) _ _ (λ _. opened-goes h)
-      (λ _. pick (Goes s x) (eqb (outsideCode s x) 0) _ _ (λ e. outside-goes h (eqb-true _ 0 e)) (λ _. stays _ _))))
+      pick After (leb (length s) (x .at)) _ _ (λ _. finish-goes s x d)
+      (λ q. let h = leb-false (length s) (x .at) q in
+      pick After (eqb (commandCode s (x .at) (x .active)) 0) _ _ (λ e. operands-go h (eqb-true _ 0 e)) (λ _. stays s x d _ _))
 
--- no line of a stream is rejected where the buffer has room for the longest
-pub line-written : (s : List ℕ) (x : Session) (d : List ℕ) → 1055 ≤ length d
-    → writeLine (perform s x .reply) (perform s x .session .state) (length d) ≡ line-of.Bytes (length (lineOf (perform s x .reply) (perform s x .session .state)))
-line-written s x d h =
-    let r = perform s x .reply in
-    let t = perform s x .session .state in
-    let w = perform-goes s x .writes in
-    long-enough r t d w (omega (arith, line-most r t w)) .0
+-- one command of the program's stream
+pub next-goes : (s : List ℕ) (x : Session) → Goes s x (performBytes s x (replicate snapshotRoom 0)) (next s x)
+next-goes s x = rw (length-replicate {A = ℕ} snapshotRoom 0) at (perform-goes s x (replicate snapshotRoom 0))
+
+later-sound : (s : List ℕ) (x : Session) (room : ℕ) → Sound x → Sound (perform s x room .session)
+later-sound s x room = rw (length-replicate {A = ℕ} room 0) at (perform-goes s x (replicate room 0) .sound)
+
+pub sessions : Sessions
+sessions = record { first = start-sound; later = later-sound }
+
+-- its line, of the buffer that a save wrote into
+module _ (s : List ℕ) (x : Session) (room : ℕ) (d : List ℕ) (p : Performed) (saved : List ℕ) (q : p ≡ next s x) (e : saved ≡ performBytes s x (replicate snapshotRoom 0)) where
+  same-line : lineOf (p .reply) saved ≡ lineOf (p .reply) (encoded (p .session .state))
+  unfolding lineAfter
+  same-line = rw (q, e) (next-goes s x .line)
+
+  pub written-is : record { performed = p; line = writeLine (p .reply) saved room } ≡ writeNext s x room
+  unfolding writeNext writeLine
+  written-is = rw (same-line, q)
+
+  pub bytes-are : lineBytes (p .reply) saved d ≡ nextBytes s x d
+  unfolding nextBytes lineBytes
+  bytes-are = rw (same-line, q)
 
 -- ---- as many commands as are asked for give the same answers, once they are enough
 unless-last : (b : Bool) (l k : List Performed) → (b ≡ false → l ≡ k) → cond b [] l ≡ cond b [] k
@@ -148,25 +236,42 @@ unfolding answersIn
 enough s zero m x h k = absurd (omega arith)
 enough s (suc n) zero x h k = absurd (omega arith)
 enough s (suc n) (suc m) x h k =
-    let next = perform s x .session in
-    ap (λ (l : List Performed). perform s x ∷ l)
-    (unless-last (isLast (perform s x .reply)) (answersIn n s next) (answersIn m s next)
-    (λ e. let q = perform-goes s x .moves e in enough s n m next (omega arith) (omega arith)))
+    let y = next s x .session in
+    ap (λ (l : List Performed). next s x ∷ l)
+    (unless-last (isLast (next s x .reply)) (answersIn n s y) (answersIn m s y)
+    (λ e. let q = next-goes s x .moves e in enough s n m y (omega arith) (omega arith)))
 
 -- going command by command gives the whole stream's answers
-pub command-by-command : (s : List ℕ) (x : Session) → answersFrom s x ≡ perform s x ∷ cond (isLast (perform s x .reply)) [] (answersFrom s (perform s x .session))
+pub command-by-command : (s : List ℕ) (x : Session) → answersFrom s x ≡ next s x ∷ cond (isLast (next s x .reply)) [] (answersFrom s (next s x .session))
 unfolding answersFrom answersIn
 command-by-command s x =
-    let next = perform s x .session in
-    ap (λ (l : List Performed). perform s x ∷ l)
-    (unless-last (isLast (perform s x .reply)) (answersIn (length s - x .at) s next) (answersIn (suc (length s - next .at)) s next)
-    (λ e. let q = perform-goes s x .moves e in enough s (length s - x .at) (suc (length s - next .at)) next (omega arith) (omega arith)))
+    let y = next s x .session in
+    ap (λ (l : List Performed). next s x ∷ l)
+    (unless-last (isLast (next s x .reply)) (answersIn (length s - x .at) s y) (answersIn (suc (length s - y .at)) s y)
+    (λ e. let q = next-goes s x .moves e in enough s (length s - x .at) (suc (length s - y .at)) y (omega arith) (omega arith)))
 
--- the last answer, and no other, is X or N: no bytes make the stream run on or stop short
-abbrev pub EndsOnce : List Performed → Type 0
-EndsOnce [] = ⊥
-EndsOnce (p ∷ []) = isLast (p .reply) ≡ true
-EndsOnce (p ∷ q ∷ ps) = (isLast (p .reply) ≡ false) × EndsOnce (q ∷ ps)
+-- and so does its text
+text-until : (b : Bool) (l : List Performed) → textOf (cond b [] l) ≡ cond b [] (textOf l)
+unfolding textOf
+text-until true l = refl
+text-until false l = refl
+
+line-by-line : (s : List ℕ) (x : Session)
+    → textOf (answersFrom s x) ≡ lineAfter (next s x) ++ cond (isLast (next s x .reply)) [] (textOf (answersFrom s (next s x .session)))
+unfolding textOf
+line-by-line s x =
+    rw (command-by-command s x)
+    (ap (λ (l : List ℕ). lineAfter (next s x) ++ l) (text-until (isLast (next s x .reply)) (answersFrom s (next s x .session))))
+
+line-written : (s : List ℕ) (x : Session) (room : ℕ) → lineRoom ≤ room
+    → writeLine (next s x .reply) (encoded (next s x .session .state)) room ≡ line-of.Bytes (length (lineAfter (next s x)))
+unfolding lineAfter
+line-written s x room h =
+    let r = next s x .reply in
+    let saved = encoded (next s x .session .state) in
+    let e = length-replicate {A = ℕ} room 0 in
+    let m = line-most r saved (next-goes s x .saved) in
+    rw e at (long-enough r saved (replicate room 0) (omega arith) .0)
 
 more : (p : Performed) (l : List Performed) → isLast (p .reply) ≡ false → EndsOnce l → EndsOnce (p ∷ l)
 more p [] e f = absurd f
@@ -180,20 +285,66 @@ ends : (n : ℕ) (s : List ℕ) (x : Session) → length s - x .at < n → EndsO
 unfolding answersIn
 ends zero s x h = absurd (omega arith)
 ends (suc n) s x h =
-    let next = perform s x .session in
-    one-more (isLast (perform s x .reply)) (perform s x) (answersIn n s next) refl (λ e. let q = perform-goes s x .moves e in ends n s next (omega arith))
+    let y = next s x .session in
+    one-more (isLast (next s x .reply)) (next s x) (answersIn n s y) refl (λ e. let q = next-goes s x .moves e in ends n s y (omega arith))
 
-pub ends-once : (s : List ℕ) → EndsOnce (answers s)
-unfolding answers answersFrom
-ends-once s = ends (suc (length s - start .at)) s start (omega arith)
+ends-once : (s : List ℕ) → EndsOnce (answers s)
+unfolding answers answersFrom admit
+ends-once s =
+    pick (λ (o : Outcome). EndsOnce (answersOf o s)) (eqb (unless (leb (length s) inputLimit) input-too-long) 0) _ _
+    (λ _. ends (suc (length s - start .at)) s start (omega arith)) (λ _. refl)
+
+pub answers-laws : Answers
+answers-laws = record { each = command-by-command; lines = line-by-line; written = line-written; ends = ends-once }
+
+-- ---- a new group, and the offset of X
+module _ (s : List ℕ) (x : Session) (room : ℕ) (o : decode s (x .at) (x .active) .command ≡ command-of.Open) where
+  opens : perform s x room ≡ openSnapshot s x
+  opens = performs s x (decode s (x .at) (x .active)) command-of.Open refl o room
+
+  whole : openCode (drop (x .at) s) ≡ 0 → perform s x room .session .state ≡ decoded (drop (x .at) s)
+  unfolding openSnapshot read
+  whole z = rw (opens, z)
+
+  otherwise : (openCode (drop (x .at) s) ≡ 0 → ⊥) → perform s x room .session ≡ x
+  otherwise h = ap (λ (p : Performed). p .session) (opens ∙ opened-rejected s x (openCode (drop (x .at) s)) refl h)
+
+  none : openCode (drop (x .at) s) ≡ truncated → length (drop (x .at) s) ≤ openOffset (drop (x .at) s) → perform s x room .reply ≡ reply-of.Rejected truncated (length s)
+  none z h =
+      let k = inside s (x .at) (x .active) o in
+      let e : restOffset s (x .at) ≡ length s = omega (arith, length-drop (x .at) s, offsets (drop (x .at) s) .within) in
+      ap (λ (p : Performed). p .reply) (opens ∙ opened-rejected s x 4 (sym z) (λ q. omega arith))
+      ∙ ap (λ (n : ℕ). reply-of.Rejected 4 n) e
+
+pub openings : Openings
+openings = record { replaced = λ s x room o. record { whole = whole s x room o; otherwise = otherwise s x room o } }
+
+long : (s : List ℕ) → inputLimit < length s → answers s ≡ rejected input-too-long 0 start ∷ []
+unfolding answers admit
+long s h = rw (lt-leb (length s) inputLimit h)
+
+pub offset-laws : Offsets
+offset-laws = record { long = long; none = none }
 
 -- ---- the stream's last answer, for a loop that goes command by command
-pub last-here : (s : List ℕ) (x : Session) → isLast (perform s x .reply) ≡ true → lastReply (answersFrom s x) ≡ perform s x .reply
+pub last-here : (s : List ℕ) (x : Session) → isLast (next s x .reply) ≡ true → lastReply (answersFrom s x) ≡ next s x .reply
 unfolding lastReply finalReply
 last-here s x e = rw (command-by-command s x, e)
 
-pub last-later : (s : List ℕ) (x : Session) → isLast (perform s x .reply) ≡ false → lastReply (answersFrom s x) ≡ lastReply (answersFrom s (perform s x .session))
+pub last-later : (s : List ℕ) (x : Session) → isLast (next s x .reply) ≡ false → lastReply (answersFrom s x) ≡ lastReply (answersFrom s (next s x .session))
 unfolding lastReply finalReply
 last-later s x e =
     rw (command-by-command s x, e)
-    (rw (command-by-command s (perform s x .session)))
+    (rw (command-by-command s (next s x .session)))
+
+pub written-next : (s : List ℕ) (x : Session) (room : ℕ) → writeNext s x room .performed ≡ next s x
+unfolding writeNext
+written-next s x room = refl
+
+pub last-admitted : (s : List ℕ) → admit s ≡ outcome-of.Accepted → lastReply (answers s) ≡ lastReply (answersFrom s start)
+unfolding answers
+last-admitted s e = rw e
+
+pub last-refused : (s : List ℕ) (n : ℕ) → admit s ≡ outcome-of.Rejected n → lastReply (answers s) ≡ reply-of.Rejected n 0
+unfolding answers lastReply finalReply
+last-refused s n e = rw e

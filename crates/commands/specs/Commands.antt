@@ -1,14 +1,14 @@
--- Document 01, "Commands", "Refusals, in checking order" and "The program's lines": a stream of commands, one at a time.
-use Prim.Native.Nat.{ℕ, zero, suc, _+_, _-_}
+-- Document 01, "Commands" and "Refusals, in checking order": one command of a stream, decoded and performed.
+use Prim.Native.Nat.{ℕ, _+_, _-_}
 use mathlib.Core.Bool.{Bool, true, false, cond, not, _&&_, _||_}
-use mathlib.Core.List.{List, [], _∷_}
-use lib.Dec.{eqb, ltb, leb}
+use mathlib.Core.List.{List}
+use lib.Dec.{eqb, leb}
 use lib.IntN.{ℤ}
 use lib.ListN.{length, drop, getD}
 use mir.Syntax.{w32}
 use mir.Val.{toZ}
-use Rattle.state.specs.Rejections.{unless, _then_, input-too-long, unknown-command, out-of-place, truncated}
-use Rattle.state.specs.States.{check}
+use Rattle.state.specs.Rejections.{unless, _then_, unknown-command, out-of-place, truncated}
+use Rattle.state.specs.States.{noState}
 use Rattle.state.specs.declared.State.{State}
 use Rattle.state.specs.declared.Outcome.{Outcome}
 use Rattle.state.specs.declared.Outcome.the-variants as outcome-of
@@ -20,11 +20,49 @@ use Rattle.weights.specs.Weights.{variance}
 use Rattle.weights.specs.declared.Variance.{Variance}
 use Rattle.weights.specs.declared.Variance.the-variants as variance-of
 use Rattle.snapshot.specs.Bytes.{unsignedAt}
-use Rattle.snapshot.specs.Snapshots.{isCommand, read, noState}
+use Rattle.snapshot.specs.CommandTable.{commandSize, isCommand, onlyInSnapshot}
+use Rattle.snapshot.specs.Snapshots.{openCode, openOffset, read, encoded, save, savedBytes}
 use Rattle.lines.specs.declared.Reply.{Reply}
 use Rattle.lines.specs.declared.Reply.the-variants as reply-of
 use Rattle.commands.specs.declared.Session.{Session}
 use Rattle.commands.specs.declared.Performed.{Performed}
+use Rattle.commands.specs.declared.decoding.Command.{Command}
+use Rattle.commands.specs.declared.decoding.Command.the-variants as command-of
+use Rattle.commands.specs.declared.decoding.Decoded.{Decoded}
+
+-- ---- the command at an offset
+
+-- what rejects the command that begins there, before its operands are looked at, or 0
+unfoldable pub commandCode : List ℕ → ℕ → Bool → ℕ
+commandCode s at active =
+    let b = getD s at 0 in
+    unless (isCommand b) unknown-command
+    then unless (not (onlyInSnapshot b) && (active || eqb b 0x10)) out-of-place
+    then unless (leb (commandSize b) (length s - at)) truncated
+
+-- the command of a first byte, with its operands
+unfoldable pub operands : List ℕ → ℕ → Command
+operands s at =
+    let b = getD s at 0 in
+    cond (eqb b 0x10) command-of.Open
+    (cond (eqb b 0x20) (command-of.Reading (toZ w32 (unsignedAt s (at + 1) 4)))
+    (cond (eqb b 0x21) command-of.Missing
+    (cond (eqb b 0x30) (command-of.Forecast (unsignedAt s (at + 1) 2))
+    (cond (eqb b 0x31) (command-of.Variance (unsignedAt s (at + 1) 2) (unsignedAt s (at + 3) 4))
+    command-of.Save))))
+
+abbrev pub decoded : Command → ℕ → Decoded
+decoded command next = record { command = command; next = next }
+
+-- the call: the command and the offset after it; the end of the stream, and a rejected command, have none after them
+unfoldable pub decode : List ℕ → ℕ → Bool → Decoded
+decode s at active =
+    cond (leb (length s) at) (decoded command-of.End at)
+    (cond (eqb (commandCode s at active) 0)
+    (decoded (operands s at) (at + commandSize (getD s at 0)))
+    (decoded (command-of.Rejected (commandCode s at active)) at))
+
+-- ---- what a command answers, and what stands after it
 
 -- before the first command: no state is open
 unfoldable pub start : Session
@@ -37,99 +75,97 @@ stopped r x = record { reply = r; session = x }
 abbrev pub rejected : ℕ → ℕ → Session → Performed
 rejected code offset x = stopped (reply-of.Rejected code offset) x
 
--- an accepted command: its answer, its length, and the state that then stands
-abbrev pub accepted : Reply → ℕ → State → Session → Performed
-accepted r size s x = record { reply = r; session = record { at = x .at + size; active = true; state = s } }
+-- an accepted command: its answer, the offset after it, and the state that then stands
+abbrev pub accepted : Reply → ℕ → State → Performed
+accepted r next s = record { reply = r; session = record { at = next; active = true; state = s } }
 
--- ---- the commands outside a group
+-- by what a call answered
+abbrev pub byOutcome : Outcome → Performed → (ℕ → Performed) → Performed
+byOutcome outcome-of.Accepted a r = a
+byOutcome (outcome-of.Rejected code) a r = r code
 
--- 11, 12 and 13 are commands that only a group holds
-abbrev pub onlyInGroup : ℕ → Bool
-onlyInGroup b = eqb b 0x11 || eqb b 0x12 || eqb b 0x13
+abbrev pub byAnswer : Answer → (ℤ → Performed) → (ℕ → Performed) → Performed
+byAnswer (answer-of.Accepted v) a r = a v
+byAnswer (answer-of.Rejected code) a r = r code
 
--- the bytes of a command: 20 has an operand of 32 bits, 30 one of 16, 31 one of 16 and one of 32
-abbrev pub sizeOf : ℕ → ℕ
-sizeOf b = cond (eqb b 0x20) 5 (cond (eqb b 0x30) 3 (cond (eqb b 0x31) 7 1))
-
--- what rejects a command other than 10 before its operands are looked at, or 0
-unfoldable pub outsideCode : List ℕ → Session → ℕ
-outsideCode s x =
-    unless (isCommand (getD s (x .at) 0)) unknown-command
-    then unless (not (onlyInGroup (getD s (x .at) 0)) && x .active) out-of-place
-    then unless (leb (sizeOf (getD s (x .at) 0)) (length s - x .at)) truncated
-
--- what a call answered, and what follows where it accepted and where it rejected
-abbrev pub concluded : Outcome → Performed → (ℕ → Performed) → Performed
-concluded outcome-of.Accepted a r = a
-concluded (outcome-of.Rejected code) a r = r code
-
-abbrev pub answered : Answer → (ℤ → Performed) → (ℕ → Performed) → Performed
-answered (answer-of.Accepted v) a r = a v
-answered (answer-of.Rejected code) a r = r code
-
--- 10: a group. A new group replaces the state only when all of it is accepted
-unfoldable pub opened : List ℕ → Session → Performed
-opened s x =
-    let g = read (drop (x .at) s) in
-    concluded (g .outcome)
-    (accepted (reply-of.Opened (g .state .model) (g .state .period)) (g .offset) (g .state) x)
-    (λ (code : ℕ). rejected code (x .at + g .offset) x)
-
--- 20: a reading of 32 bits
-unfoldable pub taken : List ℕ → Session → Performed
-taken s x =
-    let t = step (x .state) (toZ w32 (unsignedAt s (x .at + 1) 4)) in
-    answered (t .residual) (λ (e : ℤ). accepted (reply-of.Residual e) 5 (t .state) x) (λ (code : ℕ). rejected code (x .at) x)
-
--- 21: a missing reading
-unfoldable pub missed : Session → Performed
-missed x =
-    let t = missing (x .state) in
-    concluded (t .outcome) (accepted reply-of.Missing 1 (t .state) x) (λ (code : ℕ). rejected code (x .at) x)
-
--- 30: a forecast for a horizon of 16 bits
-unfoldable pub forecasted : List ℕ → Session → Performed
-forecasted s x =
-    let h = unsignedAt s (x .at + 1) 2 in
-    answered (forecast (x .state) h) (λ (v : ℤ). accepted (reply-of.Forecast h v) 3 (x .state) x) (λ (code : ℕ). rejected code (x .at) x)
-
--- 31: a variance for a horizon of 16 bits and σ² of 32 bits
-abbrev pub varianceReply : Variance → ℕ → Session → Performed
-varianceReply (variance-of.Accepted high low) h x = accepted (reply-of.Variance h high low) 7 (x .state) x
-varianceReply (variance-of.Rejected code) h x = rejected code (x .at) x
-
-unfoldable pub varied : List ℕ → Session → Performed
-varied s x =
-    let h = unsignedAt s (x .at + 1) 2 in
-    varianceReply (variance (x .state) h (unsignedAt s (x .at + 3) 4)) h x
-
--- 40: saving writes the group of the state
-unfoldable pub saved : Session → Performed
-saved x = cond (eqb (check (x .state)) 0) (accepted reply-of.Saved 1 (x .state) x) (rejected (check (x .state)) (x .at) x)
-
--- the command whose first byte stands at the session's offset
-unfoldable pub outside : List ℕ → Session → Performed
-outside s x =
-    let b = getD s (x .at) 0 in
-    cond (eqb b 0x20) (taken s x)
-    (cond (eqb b 0x21) (missed x)
-    (cond (eqb b 0x30) (forecasted s x)
-    (cond (eqb b 0x31) (varied s x)
-    (saved x))))
-
--- ---- the stream
+abbrev pub byVariance : Variance → (ℕ → ℕ → Performed) → (ℕ → Performed) → Performed
+byVariance (variance-of.Accepted high low) a r = a high low
+byVariance (variance-of.Rejected code) a r = r code
 
 -- after the last command: the count, 0 if no state is open
-abbrev pub ended : Session → Performed
-ended x = stopped (reply-of.Ended (cond (x .active) (x .state .count) 0)) x
+unfoldable pub finish : Session → Performed
+finish x = stopped (reply-of.Ended (cond (x .active) (x .state .count) 0)) x
 
--- the call: one command of the stream, each finished before the next is looked at
-unfoldable pub perform : List ℕ → Session → Performed
-perform s x =
-    cond (ltb 65536 (length s)) (rejected input-too-long 0 x)
-    (cond (leb (length s) (x .at)) (ended x)
-    (cond (eqb (getD s (x .at) 0) 0x10) (opened s x)
-    (cond (eqb (outsideCode s x) 0) (outside s x) (rejected (outsideCode s x) (x .at) x))))
+-- where the rest of the stream begins: with what follows an accepted group, or with the rejected command of one
+abbrev pub restOffset : List ℕ → ℕ → ℕ
+restOffset s at = at + openOffset (drop at s)
+
+-- 10: a new group replaces the state only when all of it is accepted
+unfoldable pub openSnapshot : List ℕ → Session → Performed
+openSnapshot s x =
+    let t = drop (x .at) s in
+    let state = read t .state in
+    cond (eqb (openCode t) 0)
+    (accepted (reply-of.Opened (state .model) (state .period)) (restOffset s (x .at)) state)
+    (rejected (openCode t) (restOffset s (x .at)) x)
+
+-- 20
+unfoldable pub takeReading : Session → ℕ → ℤ → Performed
+takeReading x next y =
+    let t = step (x .state) y in
+    byAnswer (t .residual) (λ (e : ℤ). accepted (reply-of.Residual e) next (t .state)) (λ (code : ℕ). rejected code (x .at) x)
+
+-- 21
+unfoldable pub takeMissing : Session → ℕ → Performed
+takeMissing x next =
+    let t = missing (x .state) in
+    byOutcome (t .outcome) (accepted reply-of.Missing next (t .state)) (λ (code : ℕ). rejected code (x .at) x)
+
+-- 30
+unfoldable pub giveForecast : Session → ℕ → ℕ → Performed
+giveForecast x next h =
+    byAnswer (forecast (x .state) h) (λ (v : ℤ). accepted (reply-of.Forecast h v) next (x .state)) (λ (code : ℕ). rejected code (x .at) x)
+
+-- 31
+unfoldable pub giveVariance : Session → ℕ → ℕ → ℕ → Performed
+giveVariance x next h sigma2 =
+    byVariance (variance (x .state) h sigma2) (λ (high low : ℕ). accepted (reply-of.Variance h high low) next (x .state)) (λ (code : ℕ). rejected code (x .at) x)
+
+-- 40: saving writes the group of the state into a buffer of so much room
+unfoldable pub saveState : Session → ℕ → ℕ → Performed
+saveState x next room =
+    byOutcome (save (x .state) room) (accepted (reply-of.Saved (length (encoded (x .state)))) next (x .state)) (λ (code : ℕ). rejected code (x .at) x)
+
+-- each command, with the offset after it and the room of the buffer that a save writes into
+abbrev pub act : List ℕ → Session → ℕ → ℕ → Command → Performed
+act s x room next command-of.End = finish x
+act s x room next command-of.Open = openSnapshot s x
+act s x room next (command-of.Reading y) = takeReading x next y
+act s x room next command-of.Missing = takeMissing x next
+act s x room next (command-of.Forecast h) = giveForecast x next h
+act s x room next (command-of.Variance h sigma2) = giveVariance x next h sigma2
+act s x room next command-of.Save = saveState x next room
+act s x room next (command-of.Rejected code) = rejected code (x .at) x
+
+-- what the buffer then holds
+abbrev pub buffered : Session → List ℕ → Command → List ℕ
+buffered x buffer command-of.End = buffer
+buffered x buffer command-of.Open = buffer
+buffered x buffer (command-of.Reading y) = buffer
+buffered x buffer command-of.Missing = buffer
+buffered x buffer (command-of.Forecast h) = buffer
+buffered x buffer (command-of.Variance h sigma2) = buffer
+buffered x buffer command-of.Save = savedBytes (x .state) buffer
+buffered x buffer (command-of.Rejected code) = buffer
+
+-- the call: the command at the session's offset, finished before the next is looked at
+unfoldable pub perform : List ℕ → Session → ℕ → Performed
+perform s x room =
+    let d = decode s (x .at) (x .active) in
+    act s x room (d .next) (d .command)
+
+unfoldable pub performBytes : List ℕ → Session → List ℕ → List ℕ
+performBytes s x buffer = buffered x buffer (decode s (x .at) (x .active) .command)
 
 -- X and N are a stream's last answers
 abbrev pub isLast : Reply → Bool
@@ -138,29 +174,6 @@ isLast (reply-of.Residual e) = false
 isLast reply-of.Missing = false
 isLast (reply-of.Forecast h v) = false
 isLast (reply-of.Variance h high low) = false
-isLast reply-of.Saved = false
+isLast (reply-of.Saved n) = false
 isLast (reply-of.Rejected code offset) = true
 isLast (reply-of.Ended count) = true
-
--- the answers of at most n commands, one after the other
-unfoldable pub answersIn : ℕ → List ℕ → Session → List Performed
-answersIn zero s x = []
-answersIn (suc n) s x =
-    perform s x ∷ cond (isLast (perform s x .reply)) [] (answersIn n s (perform s x .session))
-
--- the answers from a session on: each command has a byte or more, so that they are no more than the bytes left and the last one
-unfoldable pub answersFrom : List ℕ → Session → List Performed
-answersFrom s x = answersIn (suc (length s - x .at)) s x
-
--- the whole stream's answers
-unfoldable pub answers : List ℕ → List Performed
-answers s = answersFrom s start
-
--- the last of some answers after a reply
-unfoldable pub finalReply : Reply → List Performed → Reply
-finalReply r [] = r
-finalReply r (p ∷ ps) = finalReply (p .reply) ps
-
--- the stream's last answer; there is always one
-unfoldable pub lastReply : List Performed → Reply
-lastReply ps = finalReply (reply-of.Ended 0) ps

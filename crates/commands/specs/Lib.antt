@@ -1,1 +1,3 @@
 pub mod Commands
+pub mod Stream
+pub mod Promises

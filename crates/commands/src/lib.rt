@@ -1,34 +1,58 @@
 // A stream of commands, one at a time: document 01, "Commands" and "The program's lines".
+mod decoding;
 mod operands;
-mod outside;
+mod performing;
+pub mod promises;
 
+use decoding::Command;
+use decoding::decode;
+use lines::Line;
 use lines::Reply;
-use outside::accept;
-use outside::act;
-use outside::finish;
-use outside::outside_code;
-use outside::reject;
-use snapshot::read;
+use lines::write_line;
+use performing::finish;
+use performing::give_forecast;
+use performing::give_variance;
+use performing::open_snapshot;
+use performing::reject;
+use performing::save_state;
+use performing::take_missing;
+use performing::take_reading;
 use state::INPUT_TOO_LONG;
 use state::Outcome;
 use state::State;
+use state::no_state;
 ghost use mathlib.Core.Path.{_≡_};
-ghost use Prim.Native.Nat.{_≤_, _<_};
 ghost use lib.ListN.{length};
-ghost use Rattle.commands.specs.Commands.{start, isLast, opened, perform};
+ghost use Rattle.commands.specs.Commands.{start, isLast, perform, performBytes};
+ghost use Rattle.commands.specs.Stream.{admit, writeNext, nextBytes};
+
+// The longest input of the program.
+pub const INPUT_LIMIT: usize = 65536;
+
+// The longest snapshot, with a season of 48, and the line of its save.
+pub const MAX_SNAPSHOT: usize = 526;
+
+pub const MAX_LINE: usize = 1055;
 
 // What stands between two commands of a stream: the offset of the next one, and the state, where one is open.
+// The fields are private: only `start` and `perform` make a session, so that the state of every session passes its checks.
 pub struct Session {
-    pub at: usize,
+    at: usize,
     // Whether a state is open.
-    pub active: bool,
-    pub state: State,
+    active: bool,
+    state: State,
 }
 
 // The answer to a command, and what stands after it.
 pub struct Performed {
     pub reply: Reply,
     pub session: Session,
+}
+
+// The answer to a command, and its line.
+pub struct Written {
+    pub performed: Performed,
+    pub line: Line,
 }
 
 // X and N are a stream's last answers.
@@ -53,8 +77,18 @@ pub fn is_last(reply: Reply) -> bool
             high: _,
             low: _,
         } => false,
-        Reply::Saved => false,
+        Reply::Saved(_) => false,
     }
+}
+
+// Whether the program takes a stream: tested once, before its first command.
+pub fn admit(stream: &[u8]) -> Outcome
+    ensures { λ r. ⌜ r ≡ admit (now (stream .entry)) ⌝ }
+{
+    if INPUT_LIMIT < stream.len() {
+        return Outcome::Rejected(INPUT_TOO_LONG);
+    }
+    Outcome::Accepted
 }
 
 // Before the first command of a stream.
@@ -64,64 +98,41 @@ pub fn start() -> Session
     Session {
         at: 0,
         active: false,
-        state: State {
-            model: 0,
-            period: 0,
-            alpha: 0,
-            beta: 0,
-            gamma: 0,
-            phi: 0,
-            level: 0,
-            trend: 0,
-            seasonal: [0; 48],
-            index: 0,
-            count: 0,
-        },
+        state: no_state(),
     }
 }
 
-// Command 10 and the rest of its group.
-fn read_group(s: &[u8], x: Session) -> Performed
-    requires { ⌜ (x .at < length (now s)) × (length (now s) ≤ 65536) ⌝ }
-    ensures { λ r. ⌜ r ≡ opened (now (s .entry)) x ⌝ }
+// The command of a stream at a session's offset: its answer, and what stands after it. A save writes into the buffer, all else leaves it.
+pub fn perform(stream: &[u8], session: Session, buffer: &mut [u8]) -> Performed
+    ensures answer { λ r. ⌜ r ≡ perform (now (stream .entry)) session (length (now (buffer .entry))) ⌝ }
+    ensures bytes { λ _. ⌜ now (buffer .exit) ≡ performBytes (now (stream .entry)) session (now (buffer .entry)) ⌝ }
 {
-    let at = x.at;
-    let found = read(&s[at..]);
-    let outcome = found.outcome;
-    let offset = found.offset;
-    let state = found.state;
-    match outcome {
-        Outcome::Accepted => accept(
-            Reply::Opened {
-                model: state.model,
-                period: state.period,
-            },
-            offset,
-            state,
-            x,
-        ),
-        Outcome::Rejected(code) => reject(code, at + offset, x),
+    let found = decode(stream, session.at, session.active);
+    let command = found.command;
+    let next = found.next;
+    match command {
+        Command::End => finish(session),
+        Command::Open => open_snapshot(stream, session),
+        Command::Reading(y) => take_reading(session, next, y),
+        Command::Missing => take_missing(session, next),
+        Command::Forecast(horizon) => give_forecast(session, next, horizon),
+        Command::Variance { horizon, sigma2 } => give_variance(session, next, horizon, sigma2),
+        Command::Save => save_state(session, next, buffer),
+        Command::Rejected(code) => reject(code, session.at, session),
     }
 }
 
-// The command of a stream at a session's offset: its answer, and what stands after it.
-pub fn perform(s: &[u8], x: Session) -> Performed
-    ensures { λ r. ⌜ r ≡ perform (now (s .entry)) x ⌝ }
+// One command of the program's stream, and its line at the start of a buffer.
+pub fn write_next(stream: &[u8], session: Session, line: &mut [u8]) -> Written
+    ensures answer { λ r. ⌜ r ≡ writeNext (now (stream .entry)) session (length (now (line .entry))) ⌝ }
+    ensures bytes { λ _. ⌜ now (line .exit) ≡ nextBytes (now (stream .entry)) session (now (line .entry)) ⌝ }
 {
-    let at = x.at;
-    if 65536 < s.len() {
-        return reject(INPUT_TOO_LONG, 0, x);
+    let mut saved = [0u8; MAX_SNAPSHOT];
+    let performed = perform(stream, session, &mut saved);
+    let reply = performed.reply;
+    let written = write_line(reply, &saved, line);
+    Written {
+        performed,
+        line: written,
     }
-    if s.len() <= at {
-        return finish(x);
-    }
-    let b = s[at];
-    if b == 0x10 {
-        return read_group(s, x);
-    }
-    let code = outside_code(s, x);
-    if code != 0 {
-        return reject(code, at, x);
-    }
-    act(s, x)
 }

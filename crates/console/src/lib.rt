@@ -1,38 +1,72 @@
 // A stream of commands played to standard output, one write for each line.
+use commands::MAX_LINE;
+use commands::admit;
 use commands::is_last;
-use commands::perform;
 use commands::start;
+use commands::write_next;
+use libc::STDOUT_FILENO;
 use lines::Line;
 use lines::Reply;
 use lines::write_line;
-use state::State;
+use state::Outcome;
 ghost use mathlib.Core.Path.{_≡_};
-ghost use Rattle.commands.specs.Commands.{answers, lastReply};
+ghost use Rattle.commands.specs.Commands.{start};
+ghost use Rattle.commands.specs.Stream.{answersFrom, answers, lastReply};
 
-// Writes one line. The longest one, a save with a season of 48, has 1,055 bytes; no line of a stream is rejected.
-fn show(reply: Reply, state: State) {
-    let mut buffer = [0u8; 1055];
-    let line = write_line(reply, state, &mut buffer);
+// Writes a line where all before it were written, and answers whether this one was too: what arrives is always a beginning of the whole text.
+fn show(whole: bool, line: Line, buffer: &[u8]) -> bool {
+    if !whole {
+        return false;
+    }
     match line {
         Line::Bytes(n) => {
-            io::write_all(1, &buffer[..n]);
+            if buffer.len() < n {
+                return false;
+            }
+            io::write_all(STDOUT_FILENO, &buffer[..n])
         }
-        Line::Rejected(_) => {}
+        Line::Rejected(_) => false,
     }
 }
 
+// The only line of a stream that is not taken.
+fn refuse(code: u8) -> Reply
+    ensures { λ r. ⌜ r ≡ Reply.Rejected code 0 ⌝ }
+{
+    let reply = Reply::Rejected { code, offset: 0 };
+    let mut buffer = [0u8; MAX_LINE];
+    let line = write_line(reply, b"", &mut buffer);
+    show(true, line, &buffer);
+    reply
+}
+
 // Performs the commands of a stream one after the other, up to its last answer, and writes each one's line.
-pub fn play(s: &[u8]) -> Reply
-    ensures { λ r. ⌜ r ≡ lastReply (answers (now (s .entry))) ⌝ }
+fn play_commands(s: &[u8]) -> Reply
+    ensures { λ r. ⌜ r ≡ lastReply (answersFrom (now (s .entry)) start) ⌝ }
 {
     let mut x = start();
+    let mut whole = true;
     loop {
-        let p = perform(s, x);
-        let reply = p.reply;
-        x = p.session;
-        show(reply, x.state);
+        let mut buffer = [0u8; MAX_LINE];
+        let found = write_next(s, x, &mut buffer);
+        let performed = found.performed;
+        let line = found.line;
+        let reply = performed.reply;
+        x = performed.session;
+        whole = show(whole, line, &buffer);
         if is_last(reply) {
             return reply;
         }
+    }
+}
+
+// A stream's lines on standard output, and its last answer.
+pub fn play(s: &[u8]) -> Reply
+    ensures { λ r. ⌜ r ≡ lastReply (answers (now (s .entry))) ⌝ }
+{
+    let admitted = admit(s);
+    match admitted {
+        Outcome::Accepted => play_commands(s),
+        Outcome::Rejected(code) => refuse(code),
     }
 }

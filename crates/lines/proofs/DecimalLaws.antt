@@ -1,5 +1,4 @@
 -- A number in decimal is read back as itself, and no shorter run of digits holds it.
--- Assumes nothing.
 use Prim.Native.Nat.{ℕ, zero, suc, _+_, _-_, _*_, _/_, _^_, _≤_, _<_}
 use mathlib.Core.Path.{_≡_, refl}
 use mathlib.Core.Bool.{Bool, true, false, cond}
@@ -7,15 +6,9 @@ use mathlib.Core.List.{List, [], _∷_, _++_}
 use native.Mathlib.Nat.{pow-suc}
 use native.Mathlib.Omega.{arith}
 use borrow.Author.Tests.{ltb-true, ltb-false}
-use lib.Dec.{ltb}
-use lib.IntN.{negsuc}
-use Rattle.lines.specs.Lines.{digits, digitCount, decimal, signedDecimal}
-use Rattle.lines.proofs.DigitLaws.{tenth}
-
--- the number that digits stand for, after those that stand for n
-abbrev pub readFrom : ℕ → List ℕ → ℕ
-readFrom n [] = n
-readFrom n (d ∷ ds) = readFrom (n * 10 + (d - 48)) ds
+use lib.Dec.{ltb, eqb·suc-zero}
+use Rattle.lines.specs.Lines.{digits, digitCount, decimal, signedDecimal, readFrom, Decimals, Cases}
+use Rattle.lines.proofs.DigitLaws.{tenth, length-decimal}
 
 one-digit : (n : ℕ) (ds : List ℕ) (d : ℕ) → readFrom n (ds ++ (d ∷ [])) ≡ readFrom n ds * 10 + (d - 48)
 one-digit n [] d = refl
@@ -37,7 +30,7 @@ holds (suc j) n h = either (ltb n 10) refl (holds j (n / 10) (tenth (suc j) n h)
     either true e f = omega (arith, ltb-true n 10 e)
     either false e f = rw (pow-suc 10 (digitCount j (n / 10))) (omega arith)
 
-pub decimal-value : (n : ℕ) → n < 10 ^ 20 → readFrom 0 (decimal n) ≡ n
+decimal-value : (n : ℕ) → n < 10 ^ 20 → readFrom 0 (decimal n) ≡ n
 unfolding decimal
 decimal-value n h = digits-value (digitCount 19 n) n (holds 19 n h)
 
@@ -51,7 +44,7 @@ count-least (suc j) n = either (ltb n 10) (digitCount j (n / 10))
     either false k = omega arith
 
 -- with a digit less a number above 0 would not fit
-pub shortest : (j n : ℕ) → 1 ≤ n → 10 ^ (digitCount j n - 1) ≤ n
+shortest : (j n : ℕ) → 1 ≤ n → 10 ^ (digitCount j n - 1) ≤ n
 unfolding digitCount
 shortest zero n h = h
 shortest (suc j) n h = either (ltb n 10) refl (shortest j (n / 10))
@@ -65,8 +58,11 @@ shortest (suc j) n h = either (ltb n 10) refl (shortest j (n / 10))
         let q : 10 ^ (c - 1) ≤ n / 10 = f (omega arith) in
         rw (p, pow-suc 10 (c - 1)) (omega arith)
 
--- the least signed 64-bit number
-pub least : signedDecimal (negsuc 9223372036854775807)
-    ≡ 45 ∷ 57 ∷ 50 ∷ 50 ∷ 51 ∷ 51 ∷ 55 ∷ 50 ∷ 48 ∷ 51 ∷ 54 ∷ 56 ∷ 53 ∷ 52 ∷ 55 ∷ 55 ∷ 53 ∷ 56 ∷ 48 ∷ 56 ∷ []
+-- the least signed 64-bit number is computed
+pub decimals : Decimals
 unfolding signedDecimal decimal digits digitCount
-least = refl
+decimals = record { value = decimal-value; shortest = λ n h. rw (length-decimal n) (shortest 19 n h); least = refl }
+
+pub cases : Cases
+cases zero n = record { number = refl; value = λ z. refl }
+cases (suc code) n = record { number = rw (eqb·suc-zero code); value = λ z. absurd (omega arith) }

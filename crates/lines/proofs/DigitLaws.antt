@@ -1,10 +1,9 @@
 -- Laws of the digits of a line, for the functions that write them.
--- Assumes nothing.
 use Prim.Native.Nat.{ℕ, zero, suc, _+_, _*_, _/_, _%_, _^_, _≤_, _<_}
 use mathlib.Core.Path.{_≡_, refl, subst}
 use mathlib.Core.Bool.{Bool, true, false, cond}
 use mathlib.Core.List.{List, [], _∷_, _++_}
-use native.Mathlib.Nat.{le-refl, add-zero, pow-suc, div-lt-iff-lt-mul}
+use native.Mathlib.Nat.{le-refl, add-zero, add-suc, suc-add, pow-suc, div-lt-iff-lt-mul}
 use native.Mathlib.Omega.{arith}
 use borrow.Author.Tests.{lt-ltb, le-ltb, ltb-true}
 use lib.Dec.{T, lit<, ltb}
@@ -12,7 +11,7 @@ use lib.IntN.{ℤ, pos, negsuc, natAbs}
 use lib.Signed.{mag, ltZ}
 use lib.ListN.{length, length-append, set, drop, getD}
 use lib.Seq.{sets, set-comm, drop-cons}
-use Rattle.lines.specs.Lines.{digits, digitCount, decimal, signedDecimal, hexDigit, hexadecimal}
+use Rattle.lines.specs.Lines.{digits, digitCount, decimal, signedDecimal, hexDigit, hexadecimal, Put}
 
 pub length-digits : (k n : ℕ) → length (digits k n) ≡ k
 unfolding digits
@@ -33,7 +32,7 @@ pub negative : (z : ℤ) → ltZ z (pos 0) ≡ true → z ≡ negsuc (mag z)
 negative (pos n) e = absurd (omega (arith, ltb-true n 0 e))
 negative (negsuc n) e = refl
 
-nonnegative : (z : ℤ) → ltZ z (pos 0) ≡ false → z ≡ pos (mag z)
+pub nonnegative : (z : ℤ) → ltZ z (pos 0) ≡ false → z ≡ pos (mag z)
 nonnegative (pos n) e = refl
 nonnegative (negsuc n) e = absurd (subst T e tt)
 
@@ -93,3 +92,15 @@ hex-more d at i s h =
     let e : at + 2 * (i + 1) ≡ suc (suc (at + 2 * i)) = omega arith in
     let f : i + 1 ≡ suc i = omega arith in
     rw (e, f, drop-cons s i 0)
+
+-- ---- one run of bytes after another, the second where the first ends
+sets-append : (d : List ℕ) (a : ℕ) (xs ys : List ℕ) → sets d a (xs ++ ys) ≡ sets (sets d a xs) (a + length xs) ys
+sets-append d a [] ys = rw add-zero
+sets-append d a (x ∷ xs) ys = rw (add-suc a (length xs), ← (suc-add a (length xs))) (sets-append (set d a x) (suc a) xs ys)
+
+pub put-then : {d : List ℕ} {a : ℕ} {xs : List ℕ} {b : ℕ} {l ys : List ℕ} {e : ℕ} {m : List ℕ} → Put d a xs b l → Put l b ys e m → Put d a (xs ++ ys) e m
+put-then {d} {a} {xs} {b} {l} {ys} p q =
+    record {
+      past = omega (arith, length-append xs ys, p .past, q .past);
+      stored = rw (sets-append d a xs ys, ← (p .past), ← (p .stored)) (q .stored);
+    }

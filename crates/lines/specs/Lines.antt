@@ -1,19 +1,22 @@
 -- Document 01, "The program's lines": the bytes of each line.
-use Prim.Native.Nat.{ℕ, zero, suc, _+_, _/_, _%_}
+use Prim.Native.Nat.{ℕ, zero, suc, _+_, _-_, _*_, _/_, _%_, _^_, _≤_, _<_}
+use mathlib.Core.Path.{_≡_}
 use mathlib.Core.Bool.{cond}
 use mathlib.Core.List.{List, [], _∷_, _++_}
 use lib.Dec.{eqb, ltb, leb}
 use lib.IntN.{ℤ, pos, negsuc}
-use lib.ListN.{length}
+use lib.ListN.{length, take}
 use lib.Seq.{sets}
-use Rattle.state.specs.Rejections.{unless, _then_, short-buffer}
-use Rattle.state.specs.States.{check}
-use Rattle.state.specs.declared.State.{State}
-use Rattle.snapshot.specs.Snapshots.{encoded}
+use Rattle.state.specs.Rejections.{unless, short-buffer}
 use Rattle.lines.specs.declared.Reply.{Reply}
-use Rattle.lines.specs.declared.Reply.the-variants.{Opened, Residual, Missing, Forecast, Variance, Saved, Rejected, Ended}
+use Rattle.lines.specs.declared.Reply.the-variants as reply-of
 use Rattle.lines.specs.declared.Line.{Line}
 use Rattle.lines.specs.declared.Line.the-variants as line-of
+use Rattle.lines.specs.declared.fields.Number.{Number}
+use Rattle.lines.specs.declared.fields.Number.the-variants.{Nothing, Unsigned, Signed, Hexadecimal}
+use Rattle.lines.specs.declared.fields.Fields.{Fields}
+
+-- ---- numbers
 
 -- the k low decimal digits of n, the highest first
 unfoldable pub digits : ℕ → ℕ → List ℕ
@@ -43,51 +46,119 @@ unfoldable pub hexadecimal : List ℕ → List ℕ
 hexadecimal [] = []
 hexadecimal (b ∷ bs) = hexDigit (b / 16) ∷ hexDigit (b % 16) ∷ hexadecimal bs
 
--- a blank (32) and a number
-abbrev pub number : ℕ → List ℕ
-number n = 32 ∷ decimal n
+-- ---- lines
 
-abbrev pub signedNumber : ℤ → List ℕ
-signedNumber z = 32 ∷ signedDecimal z
+abbrev pub blank : ℕ
+blank = 32
 
--- the end of a line
-abbrev pub newline : List ℕ
-newline = 10 ∷ []
+abbrev pub newline : ℕ
+newline = 10
 
--- the line of a reply, with the state that stands after it; the letters are O 79, E 69, M 77, F 70, V 86, S 83, X 88, N 78
-unfoldable pub lineOf : Reply → State → List ℕ
-lineOf (Opened model m) s = 79 ∷ (number model ++ (number m ++ newline))
-lineOf (Residual e) s = 69 ∷ (signedNumber e ++ newline)
-lineOf Missing s = 77 ∷ newline
-lineOf (Forecast h v) s = 70 ∷ (number h ++ (signedNumber v ++ newline))
-lineOf (Variance h high low) s = 86 ∷ (number h ++ (number high ++ (number low ++ newline)))
-lineOf Saved s = 83 ∷ 32 ∷ (hexadecimal (encoded s) ++ newline)
-lineOf (Rejected code offset) s = 88 ∷ (number code ++ (number offset ++ newline))
-lineOf (Ended count) s = 78 ∷ (number count ++ newline)
+-- a number of a line with the blank before it; in hexadecimal stand the first n of the bytes that were saved
+abbrev pub numberBytes : List ℕ → Number → List ℕ
+numberBytes saved Nothing = []
+numberBytes saved (Unsigned n) = blank ∷ decimal n
+numberBytes saved (Signed z) = blank ∷ signedDecimal z
+numberBytes saved (Hexadecimal n) = blank ∷ hexadecimal (take n saved)
 
--- a saved state is a state handed in: it is checked before it is written
-abbrev pub replyCode : Reply → State → ℕ
-replyCode (Opened model m) s = 0
-replyCode (Residual e) s = 0
-replyCode Missing s = 0
-replyCode (Forecast h v) s = 0
-replyCode (Variance h high low) s = 0
-replyCode Saved s = check s
-replyCode (Rejected code offset) s = 0
-replyCode (Ended count) s = 0
+-- a letter, up to three numbers, and the end of the line
+unfoldable pub fieldsBytes : List ℕ → Fields → List ℕ
+fieldsBytes saved f =
+    f .letter ∷ (numberBytes saved (f .first) ++ (numberBytes saved (f .second) ++ (numberBytes saved (f .third) ++ (newline ∷ []))))
+
+abbrev pub fields : ℕ → Number → Number → Number → Fields
+fields letter a b c = record { letter = letter; first = a; second = b; third = c }
+
+-- the letters
+abbrev pub letterO : ℕ
+letterO = 79
+
+abbrev pub letterE : ℕ
+letterE = 69
+
+abbrev pub letterM : ℕ
+letterM = 77
+
+abbrev pub letterF : ℕ
+letterF = 70
+
+abbrev pub letterV : ℕ
+letterV = 86
+
+abbrev pub letterS : ℕ
+letterS = 83
+
+abbrev pub letterX : ℕ
+letterX = 88
+
+abbrev pub letterN : ℕ
+letterN = 78
+
+-- each case of a reply by the letter and the values that the paper gives it
+abbrev pub fieldsOf : Reply → Fields
+fieldsOf (reply-of.Opened model m) = fields letterO (Unsigned model) (Unsigned m) Nothing
+fieldsOf (reply-of.Residual e) = fields letterE (Signed e) Nothing Nothing
+fieldsOf reply-of.Missing = fields letterM Nothing Nothing Nothing
+fieldsOf (reply-of.Forecast h v) = fields letterF (Unsigned h) (Signed v) Nothing
+fieldsOf (reply-of.Variance h high low) = fields letterV (Unsigned h) (Unsigned high) (Unsigned low)
+fieldsOf (reply-of.Saved n) = fields letterS (Hexadecimal n) Nothing Nothing
+fieldsOf (reply-of.Rejected code offset) = fields letterX (Unsigned code) (Unsigned offset) Nothing
+fieldsOf (reply-of.Ended count) = fields letterN (Unsigned count) Nothing Nothing
+
+-- the line of a reply, with the bytes that were saved
+unfoldable pub lineOf : Reply → List ℕ → List ℕ
+lineOf r saved = fieldsBytes saved (fieldsOf r)
+
+-- ---- writing a line
+
+-- the answer of the call: the bytes of the line, or the rejection
+abbrev pub line : ℕ → ℕ → Line
+line code n = cond (eqb code 0) (line-of.Bytes n) (line-of.Rejected code)
+
+-- the paper's number of each case, 0 for a line that was written, and its bytes
+abbrev pub lineCode : Line → ℕ
+lineCode (line-of.Bytes n) = 0
+lineCode (line-of.Rejected code) = code
+
+abbrev pub lineLength : Line → ℕ
+lineLength (line-of.Bytes n) = n
+lineLength (line-of.Rejected code) = 0
+
+-- each case is told by its number and its value
+pub record LineCases (code n : ℕ) : Type 0 where
+  pub number : lineCode (line code n) ≡ code
+  pub value : code ≡ 0 → lineLength (line code n) ≡ n
 
 -- what rejects writing a line into so much room, or 0
-unfoldable pub lineCode : Reply → State → ℕ → ℕ
-lineCode r s room = replyCode r s then unless (leb (length (lineOf r s)) room) short-buffer
-
--- the call: how many bytes the line has, told before it is written
-unfoldable pub lineLength : Reply → State → Line
-lineLength r s = cond (eqb (replyCode r s) 0) (line-of.Bytes (length (lineOf r s))) (line-of.Rejected (replyCode r s))
+abbrev pub roomCode : Reply → List ℕ → ℕ → ℕ
+roomCode r saved room = unless (leb (length (lineOf r saved)) room) short-buffer
 
 -- the call: the line at the start of a buffer, or the rejection, which leaves the buffer as it came
-unfoldable pub writeLine : Reply → State → ℕ → Line
-writeLine r s room =
-    cond (eqb (lineCode r s room) 0) (line-of.Bytes (length (lineOf r s))) (line-of.Rejected (lineCode r s room))
+unfoldable pub writeLine : Reply → List ℕ → ℕ → Line
+writeLine r saved room = line (roomCode r saved room) (length (lineOf r saved))
 
-unfoldable pub lineBytes : Reply → State → List ℕ → List ℕ
-lineBytes r s buffer = cond (eqb (lineCode r s (length buffer)) 0) (sets buffer 0 (lineOf r s)) buffer
+unfoldable pub lineBytes : Reply → List ℕ → List ℕ → List ℕ
+lineBytes r saved buffer = cond (eqb (roomCode r saved (length buffer)) 0) (sets buffer 0 (lineOf r saved)) buffer
+
+-- bytes stored from an offset on, and the offset past them
+pub record Put (entry : List ℕ) (at : ℕ) (bytes : List ℕ) (next : ℕ) (exit : List ℕ) : Type 0 where
+  pub past : next ≡ at + length bytes
+  pub stored : exit ≡ sets entry at bytes
+
+-- ---- what is promised of the definitions
+
+-- the number that digits stand for, after those that stand for n
+abbrev pub readFrom : ℕ → List ℕ → ℕ
+readFrom n [] = n
+readFrom n (d ∷ ds) = readFrom (n * 10 + (d - 48)) ds
+
+-- a number in decimal is read back as itself, and with a digit less a number above 0 would not fit
+pub record Decimals : Type 0 where
+  pub value : (n : ℕ) → n < 10 ^ 20 → readFrom 0 (decimal n) ≡ n
+  pub shortest : (n : ℕ) → 1 ≤ n → 10 ^ (length (decimal n) - 1) ≤ n
+  pub least : signedDecimal (negsuc 9223372036854775807)
+      ≡ 45 ∷ 57 ∷ 50 ∷ 50 ∷ 51 ∷ 51 ∷ 55 ∷ 50 ∷ 48 ∷ 51 ∷ 54 ∷ 56 ∷ 53 ∷ 52 ∷ 55 ∷ 55 ∷ 53 ∷ 56 ∷ 48 ∷ 56 ∷ []
+
+-- each case of the enum Line is told by its number and its value
+abbrev pub Cases : Type 0
+Cases = (code n : ℕ) → LineCases code n

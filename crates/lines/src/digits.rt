@@ -5,7 +5,7 @@ ghost use Prim.Native.Nat.{_+_, _*_, _/_, _%_, _≤_, _<_};
 ghost use lib.IntN.{natAbs};
 ghost use lib.ListN.{length};
 ghost use lib.Seq.{sets};
-ghost use Rattle.lines.specs.Lines.{digits, digitCount, decimal, signedDecimal, hexDigit, hexadecimal};
+ghost use Rattle.lines.specs.Lines.{digits, digitCount, decimal, signedDecimal, hexDigit, hexadecimal, Put};
 
 // How many decimal digits n has.
 pub fn digit_count(n: u64) -> usize
@@ -36,7 +36,7 @@ fn put_digits(d: &mut [u8], at: usize, k: usize, n: u64)
 
 pub fn put_byte(d: &mut [u8], at: usize, b: u8) -> usize
     requires { ⌜ at < length (now d) ⌝ }
-    ensures { λ r. ⌜ (r ≡ at + 1) × (now (d .exit) ≡ sets (now (d .entry)) at (b ∷ [])) ⌝ }
+    ensures { λ r. ⌜ Put (now (d .entry)) at (b ∷ []) r (now (d .exit)) ⌝ }
 {
     d[at] = b;
     at + 1
@@ -44,7 +44,7 @@ pub fn put_byte(d: &mut [u8], at: usize, b: u8) -> usize
 
 pub fn put_decimal(d: &mut [u8], at: usize, n: u64) -> usize
     requires { ⌜ at + length (decimal n) ≤ length (now d) ⌝ }
-    ensures { λ r. ⌜ (r ≡ at + length (decimal n)) × (now (d .exit) ≡ sets (now (d .entry)) at (decimal n)) ⌝ }
+    ensures { λ r. ⌜ Put (now (d .entry)) at (decimal n) r (now (d .exit)) ⌝ }
 {
     let k = digit_count(n);
     put_digits(d, at, k, n);
@@ -63,7 +63,7 @@ pub fn magnitude(z: i64) -> u64
 
 pub fn put_signed(d: &mut [u8], at: usize, z: i64) -> usize
     requires { ⌜ at + length (signedDecimal z) ≤ length (now d) ⌝ }
-    ensures { λ r. ⌜ (r ≡ at + length (signedDecimal z)) × (now (d .exit) ≡ sets (now (d .entry)) at (signedDecimal z)) ⌝ }
+    ensures { λ r. ⌜ Put (now (d .entry)) at (signedDecimal z) r (now (d .exit)) ⌝ }
 {
     let n = magnitude(z);
     if z < 0 {
@@ -91,7 +91,7 @@ fn put_hex_byte(d: &mut [u8], at: usize, b: u8)
 // Writes bytes in lower-case hexadecimal.
 pub fn put_hexadecimal(d: &mut [u8], at: usize, s: &[u8]) -> usize
     requires { ⌜ at + 2 * length (now s) ≤ length (now d) ⌝ }
-    ensures { λ r. ⌜ (r ≡ at + 2 * length (now (s .entry))) × (now (d .exit) ≡ sets (now (d .entry)) at (hexadecimal (now (s .entry)))) ⌝ }
+    ensures { λ r. ⌜ Put (now (d .entry)) at (hexadecimal (now (s .entry))) r (now (d .exit)) ⌝ }
 {
     let mut i = 0;
     while i < s.len() {

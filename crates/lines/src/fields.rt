@@ -4,18 +4,21 @@ use super::digits::digit_count;
 use super::digits::magnitude;
 use super::digits::put_byte;
 use super::digits::put_decimal;
+use super::digits::put_hexadecimal;
 use super::digits::put_signed;
 ghost use mathlib.Core.Path.{_≡_};
 ghost use Prim.Native.Nat.{_+_, _≤_};
-ghost use lib.ListN.{length};
+ghost use lib.ListN.{length, take};
 ghost use lib.Seq.{sets};
-ghost use Rattle.lines.specs.Fields.{numberBytes, fieldsBytes, filledWith, fieldsOf};
+ghost use Rattle.lines.specs.Lines.{numberBytes, fieldsBytes, fieldsOf, Put};
 
 // A number of a line, with the blank before it.
 pub enum Number {
     Nothing,
     Unsigned(u64),
     Signed(i64),
+    // So many of the bytes saved.
+    Hexadecimal(u32),
 }
 
 pub struct Fields {
@@ -25,60 +28,75 @@ pub struct Fields {
     pub third: Number,
 }
 
-fn filled(letter: u8, first: Number, second: Number, third: Number) -> Fields
-    ensures { λ r. ⌜ r ≡ filledWith letter first second third ⌝ }
-{
-    Fields {
-        letter,
-        first,
-        second,
-        third,
-    }
-}
-
-// What a reply's line holds; of a save the letter alone.
+// The letter and the numbers of each reply.
 pub fn fields_of(r: Reply) -> Fields
     ensures { λ f. ⌜ f ≡ fieldsOf r ⌝ }
 {
     match r {
-        Reply::Opened { model, period } => filled(
-            b'O',
-            Number::Unsigned(model as u64),
-            Number::Unsigned(period as u64),
-            Number::Nothing,
-        ),
-        Reply::Residual(e) => filled(b'E', Number::Signed(e), Number::Nothing, Number::Nothing),
-        Reply::Missing => filled(b'M', Number::Nothing, Number::Nothing, Number::Nothing),
-        Reply::Forecast { horizon, value } => filled(
-            b'F',
-            Number::Unsigned(horizon as u64),
-            Number::Signed(value),
-            Number::Nothing,
-        ),
-        Reply::Variance { horizon, high, low } => filled(
-            b'V',
-            Number::Unsigned(horizon as u64),
-            Number::Unsigned(high),
-            Number::Unsigned(low),
-        ),
-        Reply::Saved => filled(b'S', Number::Nothing, Number::Nothing, Number::Nothing),
-        Reply::Rejected { code, offset } => filled(
-            b'X',
-            Number::Unsigned(code as u64),
-            Number::Unsigned(offset as u64),
-            Number::Nothing,
-        ),
-        Reply::Ended(count) => filled(
-            b'N',
-            Number::Unsigned(count),
-            Number::Nothing,
-            Number::Nothing,
-        ),
+        Reply::Opened { model, period } => Fields {
+            letter: b'O',
+            first: Number::Unsigned(model as u64),
+            second: Number::Unsigned(period as u64),
+            third: Number::Nothing,
+        },
+        Reply::Residual(e) => Fields {
+            letter: b'E',
+            first: Number::Signed(e),
+            second: Number::Nothing,
+            third: Number::Nothing,
+        },
+        Reply::Missing => Fields {
+            letter: b'M',
+            first: Number::Nothing,
+            second: Number::Nothing,
+            third: Number::Nothing,
+        },
+        Reply::Forecast { horizon, value } => Fields {
+            letter: b'F',
+            first: Number::Unsigned(horizon as u64),
+            second: Number::Signed(value),
+            third: Number::Nothing,
+        },
+        Reply::Variance { horizon, high, low } => Fields {
+            letter: b'V',
+            first: Number::Unsigned(horizon as u64),
+            second: Number::Unsigned(high),
+            third: Number::Unsigned(low),
+        },
+        Reply::Saved(n) => Fields {
+            letter: b'S',
+            first: Number::Hexadecimal(n),
+            second: Number::Nothing,
+            third: Number::Nothing,
+        },
+        Reply::Rejected { code, offset } => Fields {
+            letter: b'X',
+            first: Number::Unsigned(code as u64),
+            second: Number::Unsigned(offset as u64),
+            third: Number::Nothing,
+        },
+        Reply::Ended(count) => Fields {
+            letter: b'N',
+            first: Number::Unsigned(count),
+            second: Number::Nothing,
+            third: Number::Nothing,
+        },
     }
 }
 
-fn number_length(x: Number) -> usize
-    ensures { λ r. ⌜ (r ≡ length (numberBytes x)) × (r ≤ 22) ⌝ }
+// So many of some bytes, or all of them where they are fewer.
+fn front(bytes: &[u8], n: u32) -> &[u8]
+    ensures { λ r. ⌜ (now r ≡ take n (now (bytes .entry))) × (length (now r) ≤ n) ⌝ }
+{
+    let k = n as usize;
+    if bytes.len() < k {
+        return bytes;
+    }
+    &bytes[..k]
+}
+
+fn number_length(x: Number, saved: &[u8]) -> usize
+    ensures { λ r. ⌜ (r ≡ length (numberBytes (now (saved .entry)) x)) × (r ≤ 8589934592) ⌝ }
 {
     match x {
         Number::Nothing => 0,
@@ -87,22 +105,26 @@ fn number_length(x: Number) -> usize
             let k = digit_count(magnitude(z));
             if z < 0 { 2 + k } else { 1 + k }
         }
+        Number::Hexadecimal(n) => {
+            let shown = front(saved, n);
+            1 + 2 * shown.len()
+        }
     }
 }
 
-pub fn fields_length(f: Fields) -> usize
-    ensures { λ r. ⌜ r ≡ length (fieldsBytes f) ⌝ }
+pub fn fields_length(f: Fields, saved: &[u8]) -> usize
+    ensures { λ r. ⌜ r ≡ length (fieldsBytes (now (saved .entry)) f) ⌝ }
 {
     let first = f.first;
     let second = f.second;
     let third = f.third;
-    2 + number_length(first) + number_length(second) + number_length(third)
+    2 + number_length(first, saved) + number_length(second, saved) + number_length(third, saved)
 }
 
 // Writes a number at an offset and answers the next one.
-fn put_number(d: &mut [u8], at: usize, x: Number) -> usize
-    requires { ⌜ at + length (numberBytes x) ≤ length (now d) ⌝ }
-    ensures { λ r. ⌜ (r ≡ at + length (numberBytes x)) × (now (d .exit) ≡ sets (now (d .entry)) at (numberBytes x)) ⌝ }
+fn put_number(d: &mut [u8], at: usize, x: Number, saved: &[u8]) -> usize
+    requires { ⌜ at + length (numberBytes (now saved) x) ≤ length (now d) ⌝ }
+    ensures { λ r. ⌜ Put (now (d .entry)) at (numberBytes (now (saved .entry)) x) r (now (d .exit)) ⌝ }
 {
     match x {
         Number::Nothing => at,
@@ -114,19 +136,23 @@ fn put_number(d: &mut [u8], at: usize, x: Number) -> usize
             let next = put_byte(d, at, b' ');
             put_signed(d, next, z)
         }
+        Number::Hexadecimal(n) => {
+            let next = put_byte(d, at, b' ');
+            put_hexadecimal(d, next, front(saved, n))
+        }
     }
 }
 
-pub fn put_fields(d: &mut [u8], f: Fields)
-    requires { ⌜ length (fieldsBytes f) ≤ length (now d) ⌝ }
-    ensures { λ _. ⌜ now (d .exit) ≡ sets (now (d .entry)) 0 (fieldsBytes f) ⌝ }
+pub fn put_fields(d: &mut [u8], f: Fields, saved: &[u8])
+    requires { ⌜ length (fieldsBytes (now saved) f) ≤ length (now d) ⌝ }
+    ensures { λ _. ⌜ now (d .exit) ≡ sets (now (d .entry)) 0 (fieldsBytes (now (saved .entry)) f) ⌝ }
 {
     let first = f.first;
     let second = f.second;
     let third = f.third;
     let mut at = put_byte(d, 0, f.letter);
-    at = put_number(d, at, first);
-    at = put_number(d, at, second);
-    at = put_number(d, at, third);
+    at = put_number(d, at, first, saved);
+    at = put_number(d, at, second, saved);
+    at = put_number(d, at, third, saved);
     put_byte(d, at, 10);
 }

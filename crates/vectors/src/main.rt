@@ -1,6 +1,7 @@
 // Plays many stored streams: the records of the file that the argument names, as tests/second/streams.py writes them.
 // A record is a kind, a length of 32 bits with the low byte first, and a stream; kind 1 is played cut after each byte.
 
+use commands::INPUT_LIMIT;
 ghost use Prim.Native.Nat.{_<_};
 
 fn wide(b: u8) -> usize
@@ -43,7 +44,7 @@ fn play_next(fd: i32) -> bool {
     if io::read_full(fd, &mut header) < 5 {
         return false;
     }
-    let mut buffer = [0u8; 65537];
+    let mut buffer = [0u8; INPUT_LIMIT + 1];
     play_stream(fd, length_of(header), header[0] == 1, &mut buffer)
 }
 

@@ -1,14 +1,15 @@
 -- `commands::start` meets its contract.
--- Assumes nothing.
-use mathlib.Core.Path.{refl}
-use Rattle.snapshot.specs.Snapshots.{noState}
+use borrow.Author.Needs.{needs}
 use Rattle.commands.specs.Commands.{start}
 use Rattle.commands.proofs.start.Statement.{statement}
 use Rattle.commands.proofs.start.Tie as tie
 
+no-state-requires : tie.Need-no-state-requires
+no-state-requires c κs = search needs
+
 returns : tie.Need-returns
-unfolding noState start
-returns c = refl
+unfolding start
+returns c = rw (c .no-state .ensures)
 
 pub start-spec : {M : Type 1} → statement M
-start-spec = tie.close (tie.spec returns)
+start-spec = tie.close (tie.spec no-state-requires returns)

@@ -1,5 +1,4 @@
 -- `vectors::main` meets its contract.
--- Assumes nothing.
 use borrow.Author.Needs.{needs}
 use Rattle.vectors.proofs.main.Statement.{statement}
 use Rattle.vectors.proofs.main.Tie as tie

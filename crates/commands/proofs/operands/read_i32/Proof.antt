@@ -1,5 +1,4 @@
 -- `commands::operands::read_i32` meets its contract.
--- Assumes nothing.
 use borrow.Author.Needs.{needs}
 use mathlib.Core.Path.{ap, _∙_}
 use mir.Syntax.{w32}

@@ -1,5 +1,4 @@
 -- `commands::operands::read_u32` meets its contract.
--- Assumes nothing.
 use borrow.Author.Needs.{needs}
 use native.Mathlib.Omega.{arith}
 use Rattle.commands.proofs.CommandLaws.{four-bytes}

@@ -1,5 +1,4 @@
 -- `lines::digits::digit_count` meets its contract: the digits counted so far and those of what is left are the digits of n.
--- Assumes nothing.
 use borrow.Author.Needs.{needs}
 use Prim.Native.Nat.{ℕ, suc, _+_, _-_, _/_, _^_, _≤_, _<_}
 use mathlib.Core.Path.{_≡_}

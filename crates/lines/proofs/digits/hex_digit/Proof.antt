@@ -1,5 +1,4 @@
 -- `lines::digits::hex_digit` meets its contract.
--- Assumes nothing.
 use borrow.Author.Needs.{needs}
 use borrow.Author.Tests.{lt-ltb, le-ltb}
 use Rattle.lines.proofs.digits.hex_digit.Statement.{statement}

@@ -1,5 +1,4 @@
 -- `lines::digits::magnitude` meets its contract, at the least number too: −1 − z fits where z is negative.
--- Assumes nothing.
 use mathlib.Core.Path.{_≡_, sym, ap, _∙_}
 use Prim.Native.Nat.{ℕ, _+_}
 use native.Mathlib.Omega.{arith}
@@ -10,8 +9,7 @@ use mir.Syntax.{w64}
 use mir.Val.{SFits, toZ, ofZ}
 use mir.ValLaws.{toZ-ofZ}
 use Rattle.integers.proofs.Difference.{diff, known}
-use Rattle.snapshot.proofs.Signed.{kept-cast}
-use Rattle.lines.proofs.DigitLaws.{negative}
+use Rattle.lines.proofs.DigitLaws.{negative, nonnegative}
 use Rattle.lines.proofs.digits.magnitude.Statement.{statement}
 use Rattle.lines.proofs.digits.magnitude.Tie as tie
 
@@ -51,7 +49,10 @@ returns c =
     ap (λ (k : ℤ). natAbs k + 1) (m-back c) ∙ add-one (mag (z c)) ∙ ap natAbs (sym (sym (toZ-ofZ w64 (z c) (c .before .fits .z)) ∙ z-is c))
 
 cast-result-2 : tie.Need-cast-result-2
-cast-result-2 c = kept-cast w64 (c .before .args .z) (c .before .fits .z) (c .if1 .left)
+cast-result-2 c =
+    let z = c .before .args .z in
+    let e = toZ-ofZ w64 z (c .before .fits .z) in
+    rw (e ∙ nonnegative z (rw e at (c .if1 .left))) (tt, omega (arith, c .before .fits .z .sfits))
 
 returns-2 : tie.Need-returns-2
 returns-2 c = ap natAbs (toZ-ofZ w64 (c .before .args .z) (c .before .fits .z))

@@ -1,5 +1,4 @@
 -- `lines::digits::put_decimal` meets its contract.
--- Assumes nothing.
 use borrow.Author.Needs.{needs}
 use native.Mathlib.Omega.{arith}
 use Rattle.lines.specs.Lines.{decimal}
@@ -21,10 +20,11 @@ same-length c = search needs
 
 returns : tie.Need-returns
 unfolding decimal
-returns c = (
-  omega (arith, length-decimal (c .before .before .before .before .before .before .args .n)),
-  rw (← (c .before .before .before .before .digit-count .ensures .0)) (c .before .before .put-digits .ensures),
-)
+returns c =
+    record {
+      past = omega (arith, length-decimal (c .before .before .before .before .before .before .args .n));
+      stored = rw (← (c .before .before .before .before .digit-count .ensures .0)) (c .before .before .put-digits .ensures);
+    }
 
 pub put-decimal-spec : {M : Type 1} → statement M
 put-decimal-spec =

@@ -1,5 +1,4 @@
 -- `lines::digits::put_hex_byte` meets its contract.
--- Assumes nothing.
 use native.Mathlib.Numerals.{add-one}
 use native.Mathlib.Omega.{arith}
 use lib.ListN.{length-set}

@@ -7,7 +7,7 @@ use native.Mathlib.Omega.{arith}
 use lib.ListN.{length, drop}
 use lib.Seq.{sets, drop-length}
 use Rattle.lines.specs.Lines.{hexadecimal}
-use Rattle.lines.proofs.DigitLaws.{hex-more}
+use Rattle.lines.proofs.DigitLaws.{hex-more, length-hexadecimal}
 use Rattle.lines.proofs.digits.put_hexadecimal.Statement.{statement}
 use Rattle.lines.proofs.digits.put_hexadecimal.Tie as tie
 
@@ -55,7 +55,7 @@ unfolding hexadecimal
 returns c =
     let s : List ℕ = c .before .before .before .before .args .s .now in
     let z : c .before .loop .i ≡ length s = omega arith in
-    (omega arith, rw (z, drop-length s) at (c .before .loop .inv .2))
+    record { past = omega (arith, length-hexadecimal s); stored = rw (z, drop-length s) at (c .before .loop .inv .2) }
 
 pub put-hexadecimal-spec : {M : Type 1} → statement M
 put-hexadecimal-spec =

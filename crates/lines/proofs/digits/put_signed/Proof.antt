@@ -1,15 +1,13 @@
 -- `lines::digits::put_signed` meets its contract.
--- Assumes nothing.
 use borrow.Author.Needs.{needs}
 use mathlib.Core.Path.{_≡_, ap}
-use mathlib.Core.List.{[], _∷_}
+use mathlib.Core.List.{_∷_}
 use native.Mathlib.Omega.{arith}
 use lib.ListN.{length}
 use mir.Syntax.{w64}
 use mir.ValLaws.{toZ-ofZ}
-use Rattle.snapshot.proofs.ByteLaws.{follow}
 use Rattle.lines.specs.Lines.{decimal, signedDecimal}
-use Rattle.lines.proofs.DigitLaws.{signed-negative, signed-nonnegative}
+use Rattle.lines.proofs.DigitLaws.{signed-negative, signed-nonnegative, put-then}
 use Rattle.lines.proofs.digits.put_signed.Statement.{statement}
 use Rattle.lines.proofs.digits.put_signed.Tie as tie
 
@@ -38,13 +36,8 @@ same-length c = search needs
 
 returns : tie.Need-returns
 returns c =
-    let s = c .before .before .before .before .before .before .before .before .before .before .before in
-    let x = c .before .before .put-decimal in
-    let y = c .before .before .before .before .before .before .put-byte in
-    rw (minus (c .before .before .before .before .before .before .before .before)) (
-      omega arith,
-      follow (s .args .d .now) (s .args .at) (45 ∷ []) (decimal _) (y .last .0) (x .last .0) (y .result) (y .ensures .1) (x .ensures .1) (omega arith),
-    )
+    rw (minus (c .before .before .before .before .before .before .before .before))
+    (put-then (c .before .before .before .before .before .before .put-byte .ensures) (c .before .before .put-decimal .ensures))
 
 put-decimal-requires-2 : tie.Need-put-decimal-requires-2
 put-decimal-requires-2 c κs = omega (arith, ap length (plain (c .before)))

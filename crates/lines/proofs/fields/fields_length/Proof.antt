@@ -1,8 +1,7 @@
 -- `lines::fields::fields_length` meets its contract.
--- Assumes nothing.
 use borrow.Author.Needs.{needs}
 use native.Mathlib.Omega.{arith}
-use Rattle.lines.proofs.FieldLaws.{length-fields}
+use Rattle.lines.proofs.LineLaws.{length-fields}
 use Rattle.lines.proofs.fields.fields_length.Statement.{statement}
 use Rattle.lines.proofs.fields.fields_length.Tie as tie
 
@@ -25,7 +24,7 @@ add-result-3 : tie.Need-add-result-3
 add-result-3 c = search needs
 
 returns : tie.Need-returns
-returns c = omega (arith, length-fields (c .before .before .before .args .f))
+returns c = omega (arith, length-fields (c .before .before .before .before .args .saved .now) (c .before .before .before .before .args .f))
 
 pub fields-length-spec : {M : Type 1} → statement M
 fields-length-spec =

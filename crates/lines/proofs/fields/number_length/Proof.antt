@@ -1,13 +1,13 @@
 -- `lines::fields::number_length` meets its contract.
--- Assumes nothing.
 use borrow.Author.Needs.{needs}
-use mathlib.Core.Path.{_≡_, ap, _∙_}
-use native.Mathlib.Omega.{arith}
-use lib.IntN.{natAbs}
-use mir.Syntax.{w64}
-use mir.ValLaws.{toZ-ofZ}
+use Rattle.lines.proofs.DigitLaws.{length-decimal, length-hexadecimal, signed-negative, signed-nonnegative}
 use Rattle.lines.specs.Lines.{digitCount}
-use Rattle.lines.proofs.DigitLaws.{length-decimal, signed-negative, signed-nonnegative}
+use mir.ValLaws.{toZ-ofZ}
+use mir.Syntax.{w64}
+use lib.ListN.{length}
+use lib.IntN.{natAbs}
+use native.Mathlib.Omega.{arith}
+use mathlib.Core.Path.{_≡_, ap, _∙_}
 use Rattle.lines.proofs.fields.number_length.Statement.{statement}
 use Rattle.lines.proofs.fields.number_length.Tie as tie
 
@@ -38,6 +38,18 @@ add-result-2 c = search needs
 add-result-3 : tie.Need-add-result-3
 add-result-3 c = search needs
 
+enum-known-x-3 : tie.Need-enum-known-x-3
+enum-known-x-3 c = search needs
+
+front-requires : tie.Need-front-requires
+front-requires c κs = search needs
+
+mul-result : tie.Need-mul-result
+mul-result c = search needs
+
+add-result-4 : tie.Need-add-result-4
+add-result-4 c = search needs
+
 returns : tie.Need-returns
 returns c = search needs
 
@@ -62,6 +74,12 @@ returns-4 c =
     c .before .digit-count2 .ensures .0 ∙ ap (digitCount 19) (c .before .before .magnitude .ensures ∙ ap natAbs e) in
     (rw (x .1, signed-nonnegative (x .0 .0) (rw e at (c .if1 .left)), length-decimal) (omega arith), omega arith)
 
+returns-5 : tie.Need-returns-5
+returns-5 c =
+    let x = c .before .before .x3 .given in
+    let f = c .front .ensures in
+    (rw (x .1, length-hexadecimal) (omega (arith, ap length (f .0))), omega arith)
+
 pub number-length-spec : {M : Type 1} → statement M
 number-length-spec =
     tie.close
@@ -75,7 +93,12 @@ number-length-spec =
     digit-count-requires-2
     add-result-2
     add-result-3
+    enum-known-x-3
+    front-requires
+    mul-result
+    add-result-4
     returns
     returns-2
     returns-3
-    returns-4)
+    returns-4
+    returns-5)

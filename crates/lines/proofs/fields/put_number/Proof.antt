@@ -1,16 +1,15 @@
 -- `lines::fields::put_number` meets its contract.
--- Assumes nothing.
 use borrow.Author.Needs.{needs}
-use mathlib.Core.Path.{refl, ap}
-use mathlib.Core.List.{[], _∷_}
-use native.Mathlib.Omega.{arith}
-use lib.ListN.{length}
-use mir.Syntax.{w64}
-use mir.ValLaws.{toZ-ofZ}
-use Rattle.snapshot.proofs.ByteLaws.{follow}
-use Rattle.lines.specs.Lines.{decimal, signedDecimal}
-use Rattle.lines.specs.Fields.{numberBytes}
+use Rattle.lines.proofs.DigitLaws.{put-then, length-hexadecimal}
 use Rattle.lines.specs.declared.fields.Number.{Number}
+use Rattle.lines.specs.Lines.{numberBytes, Put}
+use mir.ValLaws.{toZ-ofZ}
+use mir.Syntax.{w64}
+use lib.ListN.{length, take}
+use native.Mathlib.Omega.{arith}
+use Prim.Native.Nat.{ℕ}
+use mathlib.Core.List.{List}
+use mathlib.Core.Path.{_≡_, refl, ap}
 use Rattle.lines.proofs.fields.put_number.Statement.{statement}
 use Rattle.lines.proofs.fields.put_number.Tie as tie
 
@@ -21,54 +20,56 @@ enum-known-x : tie.Need-enum-known-x
 enum-known-x c = search needs
 
 put-byte-requires : tie.Need-put-byte-requires
-put-byte-requires c κs = let e = ap (λ (x : Number). length (numberBytes x)) (c .before .before .x .given .1) in omega arith
+put-byte-requires c κs = omega (arith, ap (λ (x : Number). length (numberBytes (c .before .before .before .before .before .before .args .saved .now) x)) (c .before .before .x .given .1))
 
 put-decimal-requires : tie.Need-put-decimal-requires
-put-decimal-requires c κs = let e = ap (λ (x : Number). length (numberBytes x)) (c .before .before .before .before .before .before .x .given .1) in omega arith
+put-decimal-requires c κs = omega (arith, ap (λ (x : Number). length (numberBytes (c .before .before .before .before .before .before .before .before .before .before .args .saved .now) x)) (c .before .before .before .before .before .before .x .given .1))
 
 enum-known-x-2 : tie.Need-enum-known-x-2
 enum-known-x-2 c = search needs
 
 put-byte-requires-2 : tie.Need-put-byte-requires-2
-put-byte-requires-2 c κs = let e = ap (λ (x : Number). length (numberBytes x)) (c .before .before .x2 .given .1) in omega arith
+put-byte-requires-2 c κs = omega (arith, ap (λ (x : Number). length (numberBytes (c .before .before .before .before .before .before .args .saved .now) x)) (c .before .before .x2 .given .1))
 
 put-signed-requires : tie.Need-put-signed-requires
-put-signed-requires c κs =
-    let x = c .before .before .before .before .before .before .x2 .given in
-    let e = ap (λ (x : Number). length (numberBytes x)) (x .1) in
-    rw (toZ-ofZ w64 (x .0 .0) (search needs)) (omega arith)
+put-signed-requires c κs = rw (toZ-ofZ w64 (c .before .before .before .before .before .before .x2 .given .0 .0) (search needs)) (omega (arith, ap (λ (x : Number). length (numberBytes (c .before .before .before .before .before .before .before .before .before .before .args .saved .now) x)) (c .before .before .before .before .before .before .x2 .given .1)))
+
+enum-known-x-3 : tie.Need-enum-known-x-3
+enum-known-x-3 c = search needs
+
+put-byte-requires-3 : tie.Need-put-byte-requires-3
+put-byte-requires-3 c κs = omega (arith, ap (λ (x : Number). length (numberBytes (c .before .before .before .before .before .before .args .saved .now) x)) (c .before .before .x3 .given .1))
+
+front-requires : tie.Need-front-requires
+front-requires c κs = search needs
+
+put-hexadecimal-requires : tie.Need-put-hexadecimal-requires
+put-hexadecimal-requires c κs =
+    let f = c .front .ensures .0 in
+    omega (arith, ap (λ (x : Number). length (numberBytes (c .before .before .before .before .before .before .before .before .before .before .before .args .saved .now) x)) (c .before .before .before .before .before .before .before .x3 .given .1), ap length f, length-hexadecimal (take (c .before .before .before .before .before .before .before .x3 .given .0 .0) (c .before .before .before .before .before .before .before .before .before .before .before .args .saved .now)))
 
 returns : tie.Need-returns
-returns c = rw (c .enum-told .given .1) (omega arith, refl)
+returns c = rw (c .enum-told .given .1) (record { past = omega arith; stored = refl })
 
 same-length : tie.Need-same-length
 same-length c = search needs
 
 returns-2 : tie.Need-returns-2
-returns-2 c =
-    let s = c .before .before .before .before .before .before .before .before .before .before .before .before in
-    let x = c .before .before .before .before .before .before .before .before .before .x .given in
-    let d = c .before .before .put-decimal in
-    let b = c .before .before .before .before .before .before .put-byte in
-    rw (x .1) (
-      omega arith,
-      follow (s .args .d .now) (s .args .at) (32 ∷ []) (decimal (x .0 .0)) (b .last .0) (d .last .0) (b .result) (b .ensures .1) (d .ensures .1) (omega arith),
-    )
+returns-2 c = rw (c .before .before .before .before .before .before .before .before .before .x .given .1) (put-then (c .before .before .before .before .before .before .put-byte .ensures) (c .before .before .put-decimal .ensures))
 
 same-length-2 : tie.Need-same-length-2
 same-length-2 c = search needs
 
 returns-3 : tie.Need-returns-3
 returns-3 c =
-    let s = c .before .before .before .before .before .before .before .before .before .before .before .before in
     let x = c .before .before .before .before .before .before .before .before .before .x2 .given in
-    let d = c .before .before .put-signed in
-    let b = c .before .before .before .before .before .before .put-byte2 in
-    let w = rw (toZ-ofZ w64 (x .0 .0) (search needs)) at (d .ensures) in
-    rw (x .1) (
-      omega arith,
-      follow (s .args .d .now) (s .args .at) (32 ∷ []) (signedDecimal (x .0 .0)) (b .last .0) (d .last .0) (b .result) (b .ensures .1) (w .1) (omega arith),
-    )
+    rw (x .1) (put-then (c .before .before .before .before .before .before .put-byte2 .ensures) (rw (toZ-ofZ w64 (x .0 .0) (search needs)) at (c .before .before .put-signed .ensures)))
+
+same-length-3 : tie.Need-same-length-3
+same-length-3 c = search needs
+
+returns-4 : tie.Need-returns-4
+returns-4 c = rw (c .before .before .before .before .before .before .before .before .before .before .x3 .given .1) (put-then (c .before .before .before .before .before .before .before .put-byte3 .ensures) (rw (c .before .before .before .front .ensures .0) at (c .before .before .put-hexadecimal .ensures)))
 
 pub put-number-spec : {M : Type 1} → statement M
 put-number-spec =
@@ -81,8 +82,14 @@ put-number-spec =
     enum-known-x-2
     put-byte-requires-2
     put-signed-requires
+    enum-known-x-3
+    put-byte-requires-3
+    front-requires
+    put-hexadecimal-requires
     returns
     same-length
     returns-2
     same-length-2
-    returns-3)
+    returns-3
+    same-length-3
+    returns-4)

@@ -1,0 +1,98 @@
+-- `commands::decoding::operands` meets its contract.
+use borrow.Author.Needs.{needs}
+use Rattle.commands.specs.declared.decoding.Command.the-variants as command-of
+use Rattle.commands.specs.Commands.{operands}
+use Rattle.snapshot.specs.CommandTable.{commandSize}
+use mir.ValLaws.{toZ-ofZ}
+use mir.Syntax.{w32}
+use borrow.Author.Tests.{ne-eqb}
+use native.Mathlib.Omega.{arith}
+use mathlib.Core.Path.{refl, sym, ap, _∙_}
+use Rattle.commands.proofs.decoding.operands.Statement.{statement}
+use Rattle.commands.proofs.decoding.operands.Tie as tie
+
+shared-slice-read-b : tie.Need-shared-slice-read-b
+shared-slice-read-b c = search needs
+
+returns : tie.Need-returns
+unfolding operands
+returns c = rw (c .if1 .taken)
+
+add-read-i32 : tie.Need-add-read-i32
+add-read-i32 c = search needs
+
+read-i32-requires : tie.Need-read-i32-requires
+unfolding commandSize
+read-i32-requires c κs =
+    let h = rw (c .if2 .taken) at (c .before .before .before .before .pre .1) in
+    omega arith
+
+returns-2 : tie.Need-returns-2
+unfolding operands
+returns-2 c = rw (c .before .if2 .taken) (ap command-of.Reading (toZ-ofZ w32 (c .read-i32 .result) (search needs) ∙ c .read-i32 .ensures))
+
+returns-3 : tie.Need-returns-3
+unfolding operands
+returns-3 c = rw (c .if3 .taken)
+
+add-read-u16 : tie.Need-add-read-u16
+add-read-u16 c = search needs
+
+read-u16-requires : tie.Need-read-u16-requires
+unfolding commandSize
+read-u16-requires c κs =
+    let h = rw (c .if4 .taken) at (c .before .before .before .before .before .before .pre .1) in
+    omega arith
+
+returns-4 : tie.Need-returns-4
+unfolding operands
+returns-4 c = rw (c .before .if4 .taken) (ap command-of.Forecast (c .read-u16 .ensures .0))
+
+add-read-u16-2 : tie.Need-add-read-u16-2
+add-read-u16-2 c = search needs
+
+read-u16-requires-2 : tie.Need-read-u16-requires-2
+unfolding commandSize
+read-u16-requires-2 c κs =
+    let h = rw (c .if5 .taken) at (c .before .before .before .before .before .before .before .pre .1) in
+    omega arith
+
+add-read-u32 : tie.Need-add-read-u32
+add-read-u32 c = search needs
+
+read-u32-requires : tie.Need-read-u32-requires
+unfolding commandSize
+read-u32-requires c κs =
+    let h = rw (c .before .if5 .taken) at (c .before .before .before .before .before .before .before .before .pre .1) in
+    omega arith
+
+returns-5 : tie.Need-returns-5
+unfolding operands
+returns-5 c =
+    let h = c .before .read-u162 .ensures .0 in
+    let k = c .read-u32 .ensures in
+    rw (c .before .before .if5 .taken) (rw (← h, ← k))
+
+returns-6 : tie.Need-returns-6
+unfolding operands
+returns-6 c = rw (ne-eqb _ _ (c .before .before .before .before .if1 .left), ne-eqb _ _ (c .before .before .before .if2 .left), ne-eqb _ _ (c .before .before .if3 .left), ne-eqb _ _ (c .before .if4 .left), ne-eqb _ _ (c .if5 .left))
+
+pub operands-spec : {M : Type 1} → statement M
+operands-spec =
+    tie.close
+    (tie.spec
+    shared-slice-read-b
+    returns
+    add-read-i32
+    read-i32-requires
+    returns-2
+    returns-3
+    add-read-u16
+    read-u16-requires
+    returns-4
+    add-read-u16-2
+    read-u16-requires-2
+    add-read-u32
+    read-u32-requires
+    returns-5
+    returns-6)

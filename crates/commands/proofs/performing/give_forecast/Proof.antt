@@ -1,0 +1,47 @@
+-- `commands::performing::give_forecast` meets its contract.
+use borrow.Author.Needs.{needs}
+use Rattle.commands.proofs.CommandLaws.{forecast-accepted, forecast-rejected}
+use mir.ValLaws.{toZ-ofZ}
+use mir.Syntax.{w64}
+use mathlib.Core.Path.{refl, sym, ap, _∙_}
+use Rattle.commands.proofs.performing.give_forecast.Statement.{statement}
+use Rattle.commands.proofs.performing.give_forecast.Tie as tie
+
+forecast-requires : tie.Need-forecast-requires
+forecast-requires c κs = search needs
+
+enum-known-found : tie.Need-enum-known-found
+enum-known-found c = search needs
+
+accept-requires : tie.Need-accept-requires
+accept-requires c κs = search needs
+
+enum-known-found-2 : tie.Need-enum-known-found-2
+enum-known-found-2 c = search needs
+
+reject-requires : tie.Need-reject-requires
+reject-requires c κs = search needs
+
+returns : tie.Need-returns
+returns c =
+    let a = c .before .before .before .before .before .before .args in
+    let e = c .before .before .found .given in
+    rw (toZ-ofZ w64 (e .0 .0) (search needs)) at (c .accept .ensures) ∙ sym (forecast-accepted (a .x) (a .next) (a .horizon) (e .0 .0) (sym (c .before .before .before .before .forecast .ensures) ∙ e .1))
+
+returns-2 : tie.Need-returns-2
+returns-2 c =
+    let a = c .before .before .before .before .before .before .args in
+    let e = c .before .before .found2 .given in
+    c .reject .ensures ∙ sym (forecast-rejected (a .x) (a .next) (a .horizon) (e .0 .0) (sym (c .before .before .before .before .forecast .ensures) ∙ e .1))
+
+pub give-forecast-spec : {M : Type 1} → statement M
+give-forecast-spec =
+    tie.close
+    (tie.spec
+    forecast-requires
+    enum-known-found
+    accept-requires
+    enum-known-found-2
+    reject-requires
+    returns
+    returns-2)

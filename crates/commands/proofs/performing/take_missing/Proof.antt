@@ -1,0 +1,43 @@
+-- `commands::performing::take_missing` meets its contract.
+use borrow.Author.Needs.{needs}
+use Rattle.commands.proofs.CommandLaws.{missing-accepted, missing-rejected}
+use mathlib.Core.Path.{refl, sym, ap, _∙_}
+use Rattle.commands.proofs.performing.take_missing.Statement.{statement}
+use Rattle.commands.proofs.performing.take_missing.Tie as tie
+
+missing-requires : tie.Need-missing-requires
+missing-requires c κs = search needs
+
+enum-told : tie.Need-enum-told
+enum-told c = search needs
+
+accept-requires : tie.Need-accept-requires
+accept-requires c κs = search needs
+
+enum-known-outcome : tie.Need-enum-known-outcome
+enum-known-outcome c = search needs
+
+reject-requires : tie.Need-reject-requires
+reject-requires c κs = search needs
+
+returns : tie.Need-returns
+returns c =
+    let a = c .before .before .before .before .before .before .args in
+    c .accept .ensures ∙ sym (missing-accepted (a .x) (a .next) _ (c .before .before .before .before .missing .ensures) (c .before .enum-told .given .1))
+
+returns-2 : tie.Need-returns-2
+returns-2 c =
+    let a = c .before .before .before .before .before .before .before .args in
+    c .reject .ensures ∙ sym (missing-rejected (a .x) (a .next) _ _ (c .before .before .before .before .before .missing .ensures) (c .before .before .outcome .given .1))
+
+pub take-missing-spec : {M : Type 1} → statement M
+take-missing-spec =
+    tie.close
+    (tie.spec
+    missing-requires
+    enum-told
+    accept-requires
+    enum-known-outcome
+    reject-requires
+    returns
+    returns-2)

@@ -1,0 +1,52 @@
+-- `commands::performing::take_reading` meets its contract.
+use borrow.Author.Needs.{needs}
+use Rattle.commands.proofs.CommandLaws.{reading-accepted, reading-rejected}
+use Rattle.ets.specs.Steps.{step}
+use mir.ValLaws.{toZ-ofZ}
+use mir.Syntax.{w32, w64}
+use mathlib.Core.Path.{refl, sym, ap, _∙_}
+use Rattle.commands.proofs.performing.take_reading.Statement.{statement}
+use Rattle.commands.proofs.performing.take_reading.Tie as tie
+
+step-requires : tie.Need-step-requires
+step-requires c κs = search needs
+
+enum-known-residual : tie.Need-enum-known-residual
+enum-known-residual c = search needs
+
+accept-requires : tie.Need-accept-requires
+accept-requires c κs = search needs
+
+enum-known-residual-2 : tie.Need-enum-known-residual-2
+enum-known-residual-2 c = search needs
+
+reject-requires : tie.Need-reject-requires
+reject-requires c κs = search needs
+
+returns : tie.Need-returns
+returns c =
+    let s = c .before .before .before .before .before .before .before in
+    let t = c .before .before .before .before .before .step in
+    let q = t .ensures ∙ ap (step (s .args .x .state)) (toZ-ofZ w32 (s .args .y) (s .fits .y)) in
+    let e = c .before .before .residual .given in
+    rw (toZ-ofZ w64 (e .0 .0) (search needs)) at (c .accept .ensures) ∙ sym (reading-accepted (s .args .x) (s .args .next) _ (t .result) (e .0 .0) q (e .1))
+
+returns-2 : tie.Need-returns-2
+returns-2 c =
+    let s = c .before .before .before .before .before .before .before in
+    let t = c .before .before .before .before .before .step in
+    let q = t .ensures ∙ ap (step (s .args .x .state)) (toZ-ofZ w32 (s .args .y) (s .fits .y)) in
+    let e = c .before .before .residual2 .given in
+    c .reject .ensures ∙ sym (reading-rejected (s .args .x) (s .args .next) _ (t .result) (e .0 .0) q (e .1))
+
+pub take-reading-spec : {M : Type 1} → statement M
+take-reading-spec =
+    tie.close
+    (tie.spec
+    step-requires
+    enum-known-residual
+    accept-requires
+    enum-known-residual-2
+    reject-requires
+    returns
+    returns-2)

@@ -1,0 +1,10 @@
+-- `commands::promises::sessions` meets its contract.
+use Rattle.commands.proofs.StreamLaws.{sessions as law}
+use Rattle.commands.proofs.promises.sessions.Statement.{statement}
+use Rattle.commands.proofs.promises.sessions.Tie as tie
+
+returns : tie.Need-returns
+returns c = law
+
+pub sessions-spec : {M : Type 1} → statement M
+sessions-spec = tie.close (tie.spec returns)

@@ -1,0 +1,50 @@
+-- `commands::write_next` meets its contract.
+use borrow.Author.Needs.{needs}
+use Rattle.commands.proofs.StreamLaws.{written-is, bytes-are}
+use Rattle.commands.specs.declared.Written.{Written}
+use Rattle.commands.specs.declared.Performed.{Performed}
+use Rattle.lines.specs.declared.Line.{Line}
+use lib.ListN.{length}
+use mathlib.Core.Path.{ap, _∙_}
+use Rattle.commands.proofs.write_next.Statement.{statement}
+use Rattle.commands.proofs.write_next.Tie as tie
+
+abbrev written : Performed → Line → Written
+written p l = record { performed = p; line = l }
+
+slice-aggregate-perform : tie.Need-slice-aggregate-perform
+slice-aggregate-perform c = search needs
+
+perform-requires : tie.Need-perform-requires
+perform-requires c κs = search needs
+
+slice-aggregate-write-line : tie.Need-slice-aggregate-write-line
+slice-aggregate-write-line c = search needs
+
+write-line-requires : tie.Need-write-line-requires
+write-line-requires c κs = search needs
+
+same-length : tie.Need-same-length
+same-length c = search needs
+
+returns : tie.Need-returns
+returns c =
+    let a = c .before .before .before .before .before .before .before .before .before .before .args in
+    let p = c .before .before .before .before .before .before .perform in
+    let w = c .before .before .write-line .ensures in
+    let s = a .stream .now in
+    let d = a .line .now in (
+      ap (written (p .result)) (w .0) ∙ written-is s (a .session) (length d) d (p .result) (p .last .1 .1 .0) (p .ensures .0) (p .ensures .1),
+      w .1 ∙ bytes-are s (a .session) (length d) d (p .result) (p .last .1 .1 .0) (p .ensures .0) (p .ensures .1),
+    )
+
+pub write-next-spec : {M : Type 1} → statement M
+write-next-spec =
+    tie.close
+    (tie.spec
+    slice-aggregate-perform
+    perform-requires
+    slice-aggregate-write-line
+    write-line-requires
+    same-length
+    returns)

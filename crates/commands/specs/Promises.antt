@@ -1,0 +1,85 @@
+-- The promises about whole streams.
+use Prim.Native.Nat.{ℕ, _+_, _≤_, _<_}
+use mathlib.Core.Path.{_≡_}
+use mathlib.Core.Bool.{true, false, cond}
+use mathlib.Core.List.{List, [], _∷_, _++_}
+use lib.ListN.{length, drop}
+use Rattle.state.specs.Rejections.{input-too-long, truncated}
+use Rattle.state.specs.States.{check}
+use Rattle.state.specs.declared.State.{State}
+use Rattle.snapshot.specs.Snapshots.{openCode, openOffset, decoded, encoded}
+use Rattle.lines.specs.Lines.{writeLine}
+use Rattle.lines.specs.declared.Reply.the-variants as reply-of
+use Rattle.lines.specs.declared.Line.the-variants as line-of
+use Rattle.commands.specs.Commands.{start, rejected, decode, perform, isLast}
+use Rattle.commands.specs.Stream.{inputLimit, lineRoom, next, answersFrom, answers, lineAfter, textOf, text}
+use Rattle.commands.specs.declared.Session.{Session}
+use Rattle.commands.specs.declared.Performed.{Performed}
+use Rattle.commands.specs.declared.decoding.Command.the-variants as command-of
+
+-- a state that is open passes its checks
+pub record Passes (t : State) : Type 0 where
+  pub checked : check t ≡ 0
+  pub cells : length (t .seasonal) ≡ 48
+
+pub record Sound (x : Session) : Type 0 where
+  pub passes : x .active ≡ true → Passes (x .state)
+
+-- so does that of every session: only `start` and `perform` make one
+pub record Sessions : Type 0 where
+  pub first : Sound start
+  pub later : (s : List ℕ) (x : Session) (room : ℕ) → Sound x → Sound (perform s x room .session)
+
+-- the last answer, and no other, is X or N: no bytes make the stream run on or stop short
+abbrev pub EndsOnce : List Performed → Type 0
+EndsOnce [] = ⊥
+EndsOnce (p ∷ []) = isLast (p .reply) ≡ true
+EndsOnce (p ∷ q ∷ ps) = (isLast (p .reply) ≡ false) × EndsOnce (q ∷ ps)
+
+-- the answers and the text come command by command, each has its line in a buffer of the program's room, and the stream ends once
+pub record Answers : Type 0 where
+  pub each : (s : List ℕ) (x : Session) → answersFrom s x ≡ next s x ∷ cond (isLast (next s x .reply)) [] (answersFrom s (next s x .session))
+  pub lines : (s : List ℕ) (x : Session)
+      → textOf (answersFrom s x) ≡ lineAfter (next s x) ++ cond (isLast (next s x .reply)) [] (textOf (answersFrom s (next s x .session)))
+  pub written : (s : List ℕ) (x : Session) (room : ℕ) → lineRoom ≤ room
+      → writeLine (next s x .reply) (encoded (next s x .session .state)) room ≡ line-of.Bytes (length (lineAfter (next s x)))
+  pub ends : (s : List ℕ) → EndsOnce (answers s)
+
+-- a new group replaces the state only when all of it is accepted
+pub record Replaced (s : List ℕ) (x : Session) (room : ℕ) : Type 0 where
+  pub whole : openCode (drop (x .at) s) ≡ 0 → perform s x room .session .state ≡ decoded (drop (x .at) s)
+  pub otherwise : (openCode (drop (x .at) s) ≡ 0 → ⊥) → perform s x room .session ≡ x
+
+-- X: 0 for refusal 1, and the input's length where refusal 4 finds no command begun
+pub record Offsets : Type 0 where
+  pub long : (s : List ℕ) → inputLimit < length s → answers s ≡ rejected input-too-long 0 start ∷ []
+  pub none : (s : List ℕ) (x : Session) (room : ℕ) → decode s (x .at) (x .active) .command ≡ command-of.Open
+      → openCode (drop (x .at) s) ≡ truncated → length (drop (x .at) s) ≤ openOffset (drop (x .at) s)
+      → perform s x room .reply ≡ reply-of.Rejected truncated (length s)
+
+pub record Openings : Type 0 where
+  pub replaced : (s : List ℕ) (x : Session) (room : ℕ) → decode s (x .at) (x .active) .command ≡ command-of.Open → Replaced s x room
+
+-- the listing: model 0, A = 32768, all else 0, then reading 10, forecast 2, variance 2 with σ² 4
+abbrev pub listing : List ℕ
+listing =
+    0x10 ∷ 0 ∷ 0 ∷ 0 ∷ 0x80 ∷ 0 ∷ 0 ∷ 0 ∷ 0 ∷ 0 ∷ 0 ∷ 0 ∷ 0 ∷ 0 ∷ 0 ∷ 0 ∷ 0 ∷ 0 ∷ 0
+    ∷ 0x11 ∷ 0 ∷ 0 ∷ 0 ∷ 0 ∷ 0 ∷ 0 ∷ 0 ∷ 0 ∷ 0 ∷ 0 ∷ 0 ∷ 0 ∷ 0 ∷ 0 ∷ 0 ∷ 0
+    ∷ 0x13 ∷ 0 ∷ 0 ∷ 0 ∷ 0 ∷ 0 ∷ 0 ∷ 0 ∷ 0 ∷ 0
+    ∷ 0x20 ∷ 10 ∷ 0 ∷ 0 ∷ 0
+    ∷ 0x30 ∷ 2 ∷ 0
+    ∷ 0x31 ∷ 2 ∷ 0 ∷ 4 ∷ 0 ∷ 0 ∷ 0
+    ∷ []
+
+-- O 0 0, E 655360, F 2 327680, V 2 0 21474836480, N 1
+abbrev pub listingText : List ℕ
+listingText =
+    79 ∷ 32 ∷ 48 ∷ 32 ∷ 48 ∷ 10
+    ∷ 69 ∷ 32 ∷ 54 ∷ 53 ∷ 53 ∷ 51 ∷ 54 ∷ 48 ∷ 10
+    ∷ 70 ∷ 32 ∷ 50 ∷ 32 ∷ 51 ∷ 50 ∷ 55 ∷ 54 ∷ 56 ∷ 48 ∷ 10
+    ∷ 86 ∷ 32 ∷ 50 ∷ 32 ∷ 48 ∷ 32 ∷ 50 ∷ 49 ∷ 52 ∷ 55 ∷ 52 ∷ 56 ∷ 51 ∷ 54 ∷ 52 ∷ 56 ∷ 48 ∷ 10
+    ∷ 78 ∷ 32 ∷ 49 ∷ 10
+    ∷ []
+
+abbrev pub Listing : Type 0
+Listing = text listing ≡ listingText

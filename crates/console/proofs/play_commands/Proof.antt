@@ -1,0 +1,78 @@
+-- `console::play_commands` meets its contract: what is left of the stream has the whole stream's last answer, and each command that is not the last moves on.
+use borrow.Author.Needs.{needs}
+use Rattle.commands.proofs.StreamLaws.{next-goes, last-here, last-later, written-next}
+use Rattle.commands.specs.declared.Session.{Session}
+use Rattle.commands.specs.declared.Performed.{Performed}
+use Rattle.commands.specs.declared.Written.{Written}
+use Rattle.commands.specs.Stream.{next, answersFrom, lastReply}
+use Rattle.commands.specs.Commands.{isLast, start}
+use lib.ListN.{length}
+use native.Mathlib.Omega.{arith}
+use mathlib.Core.Path.{_≡_, sym, ap, _∙_}
+use Prim.Native.Nat.{_-_}
+use Rattle.console.proofs.play_commands.Statement.{statement}
+use Rattle.console.proofs.play_commands.Tie as tie
+
+abbrev Inv-loop : tie.InvT-loop
+Inv-loop s x₀ whole₀ x whole = lastReply (answersFrom s x) ≡ lastReply (answersFrom s start)
+
+abbrev μ-loop : tie.MeasureT-loop
+μ-loop s x₀ whole₀ x whole = length s - x .at
+
+start-requires : tie.Need-start-requires Inv-loop μ-loop
+start-requires c κs = search needs
+
+loop-holds : tie.Need-loop-holds Inv-loop μ-loop
+loop-holds c = ap (λ (x : Session). lastReply (answersFrom (c .before .before .args .s .now) x)) (c .start .ensures)
+
+slice-aggregate-write-next : tie.Need-slice-aggregate-write-next Inv-loop μ-loop
+slice-aggregate-write-next c = search needs
+
+write-next-requires : tie.Need-write-next-requires Inv-loop μ-loop
+write-next-requires c κs = search needs
+
+slice-aggregate-show : tie.Need-slice-aggregate-show Inv-loop μ-loop
+slice-aggregate-show c = search needs
+
+show-requires : tie.Need-show-requires Inv-loop μ-loop
+show-requires c κs = search needs
+
+is-last-requires : tie.Need-is-last-requires Inv-loop μ-loop
+is-last-requires c κs = search needs
+
+-- the command that was answered, and whether it was the last
+performs : (c : tie.After-write-next Inv-loop μ-loop) → c .write-next .result .performed ≡ next (c .before .before .before .before .before .args .s .now) (c .before .before .loop .x)
+performs c = ap (λ (a : Written). a .performed) (c .write-next .ensures .0) ∙ written-next _ _ _
+
+told : (c : tie.After-is-last Inv-loop μ-loop)
+    → c .is-last .result ≡ isLast (next (c .before .before .before .before .before .before .before .before .before .before .before .args .s .now) (c .before .before .before .before .before .before .before .before .loop .x) .reply)
+told c =
+    c .is-last .ensures ∙ ap (λ (p : Performed). isLast (p .reply)) (performs (c .before .before .before .before .before .before))
+
+returns : tie.Need-returns Inv-loop μ-loop
+returns c = ap (λ (p : Performed). p .reply) (performs (c .before .before .before .before .before .before .before)) ∙ sym (last-here _ _ (sym (told (c .before)) ∙ c .if1 .taken)) ∙ c .before .before .before .before .before .before .before .before .before .loop .inv
+
+loop-less : tie.Need-loop-less Inv-loop μ-loop
+loop-less c =
+    let m = next-goes _ _ .moves (sym (told (c .before)) ∙ c .if1 .left) in
+    rw (performs (c .before .before .before .before .before .before .before)) (omega arith)
+
+loop-again : tie.Need-loop-again Inv-loop μ-loop
+loop-again c = rw (performs (c .before .before .before .before .before .before .before)) (sym (last-later _ _ (sym (told (c .before)) ∙ c .if1 .left)) ∙ c .before .before .before .before .before .before .before .before .before .loop .inv)
+
+pub play-commands-spec : {M : Type 1} → statement M
+play-commands-spec =
+    tie.close
+    (tie.spec
+    Inv-loop
+    μ-loop
+    start-requires
+    loop-holds
+    slice-aggregate-write-next
+    write-next-requires
+    slice-aggregate-show
+    show-requires
+    is-last-requires
+    returns
+    loop-less
+    loop-again)
