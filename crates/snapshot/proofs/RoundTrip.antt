@@ -64,11 +64,11 @@ module _ (x : List ℕ) (at first k : ℕ) (bs u : List ℕ) (e : drop at x ≡ 
   byte-at : getD x at 0 ≡ first
   byte-at = rw (add-zero at) at (sym (getD-drop at x 0 0)) ∙ ap (λ (l : List ℕ). getD l 0 0) e
 
-  index-at : (a : ℕ) → a ≡ at + 1 → getD x a 0 ≡ k
-  index-at a q = rw q (sym (getD-drop at x 1 0) ∙ ap (λ (l : List ℕ). getD l 1 0) e)
+  index-at : getD x (at + 1) 0 ≡ k
+  index-at = sym (getD-drop at x 1 0) ∙ ap (λ (l : List ℕ). getD l 1 0) e
 
-  operand-at : (a n : ℕ) → a ≡ at + 2 → length bs ≡ n → take n (drop a x) ≡ bs
-  operand-at a n q l = rw (q, ← (drop-drop 2 at x), e) (take-at bs u n l)
+  operand-at : (n : ℕ) → length bs ≡ n → take n (drop (at + 2) x) ≡ bs
+  operand-at n l = rw (← (drop-drop 2 at x), e) (take-at bs u n l)
 
 -- the command of place k among those of n places
 season-at : (cells : List ℤ) (n k : ℕ) (u : List ℕ) → k < n
@@ -153,7 +153,7 @@ module _ (s : State) (t : List ℕ) (p : Passed s) (b : Bounded s) where
     unfolding seasonBytes
     cell-back =
         signed-back x (seasonAt k + 2) value
-        (operand-at x (seasonAt k) 0x12 k (signedBytes value) (command .0) (command .1) (seasonAt k + 2) 8 refl (length-toBytes 8 (ofZ w64 value)))
+        (operand-at x (seasonAt k) 0x12 k (signedBytes value) (command .0) (command .1) 8 (length-toBytes 8 (ofZ w64 value)))
         (fits (b .cells k (omega (arith, b .period))))
 
     season-back : Season x k
@@ -161,7 +161,7 @@ module _ (s : State) (t : List ℕ) (p : Passed s) (b : Bounded s) where
     season-back =
         record {
           due = record { byte = byte-at x (seasonAt k) 0x12 k (signedBytes value) (command .0) (command .1); room = omega (arith, size) };
-          index = index-at x (seasonAt k) 0x12 k (signedBytes value) (command .0) (command .1) (seasonAt k + 1) refl;
+          index = index-at x (seasonAt k) 0x12 k (signedBytes value) (command .0) (command .1);
           value = rw cell-back (rw (lt-ltb k (s .period) l) at (cell-ok k (omega (arith, b .period))));
         }
 
@@ -180,16 +180,16 @@ module _ (s : State) (t : List ℕ) (p : Passed s) (b : Bounded s) where
 
   index-back : indexIn x (s .period) ≡ s .index
   unfolding positionBytes
-  index-back = index-at x (positionAt (s .period)) 0x13 (s .index) (toBytes 8 (s .count)) t last (positionAt (s .period) + 1) refl
+  index-back = index-at x (positionAt (s .period)) 0x13 (s .index) (toBytes 8 (s .count)) t last
 
   count-back : countIn x (s .period) ≡ s .count
   unfolding positionBytes
   count-back =
       unsigned-back x (positionAt (s .period) + 2) 8 (s .count)
-      (operand-at x (positionAt (s .period)) 0x13 (s .index) (toBytes 8 (s .count)) t last (positionAt (s .period) + 2) 8 refl (length-toBytes 8 (s .count)))
+      (operand-at x (positionAt (s .period)) 0x13 (s .index) (toBytes 8 (s .count)) t last 8 (length-toBytes 8 (s .count)))
       (lt-of-le-of-lt (b .count) (lit< tt))
 
-  position-due : Due x (positionAt (s .period)) 0x13 10
+  position-due : Due x (positionAt (s .period)) 0x13 positionLength
   unfolding positionBytes
   position-due =
       record { byte = byte-at x (positionAt (s .period)) 0x13 (s .index) (toBytes 8 (s .count)) t last; room = omega (arith, size) }
