@@ -15,7 +15,8 @@ The program keeps one state and reads records of one shape: an operation's byte,
     8 weight       of horizon x
     9 variance     of horizon x, with y for the residuals' variance
     10 save        into x byte cells
-    11 read        a group at the start of the bytes
+    11 read        a group at the start of the bytes: the refusal or 0, how many bytes are left, the rest, and the state (after a refusal
+                   the rest begins with the refused command, and the state is one that every check refuses)
     12 keep        the state that the last step, missing, batch or read handed back
 
 Cells start as 77, so that what a call leaves untouched is seen.
@@ -147,14 +148,15 @@ class Script:
 
     def read(self, data):
         self.record(11, 0, 0, data)
+        kept, code = self.last, 0
         try:
             x, used = f.read_group(data)
-            self.say("read", 0, used)
-            self.say_state(x)
         except f.Rejected as r:
-            used = 0
-            self.say("read", r.code, r.offset)
+            x, used, code = State(model=255), r.offset, r.code
+        self.say("read", code, len(data) - used)
         self.say("rest", data[used:].hex())
+        self.say_state(x)
+        self.last = kept if code else x
 
     def everything(self):
         """Each call on the state, with operands that would pass."""

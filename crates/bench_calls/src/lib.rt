@@ -1,62 +1,74 @@
-// Entry points of the benchmark: the calls that the station's C interface does not have, on the state of a lent snapshot.
+// Entry points of the benchmark: calls that the station's C interface does not have, on a lent slice that holds one snapshot.
+// Each returns the rejection's number or 0, as the station's calls do; a rejected call leaves the cells and the lent weight as found.
 use ets::batches::batch;
 use ets::forecasts::forecasts;
-use snapshot::read;
-use state::Outcome;
+use snapshot::in_place::read;
+use state::code_of;
 use weights::Weight;
 use weights::variances::weight;
 ghost use mathlib.Core.Path.{_≡_};
 ghost use lib.ListN.{length};
-ghost use Rattle.state.specs.Rejections.{outcomeCode};
-ghost use Rattle.ets.specs.Batches.{batch, batchLevels};
-ghost use Rattle.ets.specs.Forecasts.{forecasts, forecastCells};
-ghost use Rattle.snapshot.specs.Snapshots.{read};
-ghost use Rattle.bench_calls.specs.Numbers.{numberOf, weightNumber};
+ghost use Rattle.bench_calls.specs.Snapshots.{batchCode, batchTaken, batchCells, allCode, allCells, lentWeightCode, lentWeight};
 
-fn code_of(done: Outcome) -> u8
-    ensures { λ r. ⌜ r ≡ outcomeCode done ⌝ }
-{
-    match done {
-        Outcome::Accepted => 0,
-        Outcome::Rejected(n) => n,
-    }
-}
-
-fn number_of(found: Weight) -> u64
-    ensures { λ r. ⌜ r ≡ numberOf found ⌝ }
-{
-    match found {
-        Weight::Accepted(w) => w,
-        Weight::Rejected(_) => 0,
-    }
-}
-
+// The readings taken are told in every case: 0 where a check before the first of them stops the batch.
 #[no_mangle]
-pub extern "C" fn bench_batch(snapshot: &[u8], readings: &[i32], levels: &mut [i64]) -> usize
-    ensures taken { λ r. ⌜ r ≡ batch (read (now (snapshot .entry)) .state) (now (readings .entry)) (length (now (levels .entry))) .taken ⌝ }
-    ensures buffer { λ _. ⌜ now (levels .exit) ≡ batchLevels (read (now (snapshot .entry)) .state) (now (readings .entry)) (now (levels .entry)) ⌝ }
+pub extern "C" fn bench_batch(
+    snapshot: &[u8],
+    readings: &[i32],
+    levels: &mut [i64],
+    taken: &mut usize,
+) -> u8
+    ensures code { λ r. ⌜ r ≡ batchCode (now (snapshot .entry)) (now (readings .entry)) (length (now (levels .entry))) ⌝ }
+    ensures number { λ _. ⌜ now (taken .exit) ≡ batchTaken (now (snapshot .entry)) (now (readings .entry)) (length (now (levels .entry))) ⌝ }
+    ensures buffer { λ _. ⌜ now (levels .exit) ≡ batchCells (now (snapshot .entry)) (now (readings .entry)) (now (levels .entry)) ⌝ }
 {
     let opened = read(snapshot);
+    let outcome = opened.outcome;
+    let code = code_of(outcome);
+    if code != 0 {
+        *taken = 0;
+        return code;
+    }
     let state = opened.state;
     let done = batch(state, readings, levels);
-    done.taken
+    let count = done.taken;
+    *taken = count;
+    let end = done.outcome;
+    code_of(end)
 }
 
 #[no_mangle]
 pub extern "C" fn bench_forecasts(snapshot: &[u8], horizon: u32, values: &mut [i64]) -> u8
-    ensures code { λ r. ⌜ r ≡ outcomeCode (forecasts (read (now (snapshot .entry)) .state) horizon (length (now (values .entry)))) ⌝ }
-    ensures buffer { λ _. ⌜ now (values .exit) ≡ forecastCells (read (now (snapshot .entry)) .state) horizon (now (values .entry)) ⌝ }
+    ensures code { λ r. ⌜ r ≡ allCode (now (snapshot .entry)) horizon (length (now (values .entry))) ⌝ }
+    ensures buffer { λ _. ⌜ now (values .exit) ≡ allCells (now (snapshot .entry)) horizon (now (values .entry)) ⌝ }
 {
     let opened = read(snapshot);
+    let outcome = opened.outcome;
+    let code = code_of(outcome);
+    if code != 0 {
+        return code;
+    }
     let state = opened.state;
     code_of(forecasts(state, horizon, values))
 }
 
 #[no_mangle]
-pub extern "C" fn bench_weight(snapshot: &[u8], horizon: u32) -> u64
-    ensures { λ r. ⌜ r ≡ weightNumber (read (now (snapshot .entry)) .state) horizon ⌝ }
+pub extern "C" fn bench_weight(snapshot: &[u8], horizon: u32, value: &mut u64) -> u8
+    ensures code { λ r. ⌜ r ≡ lentWeightCode (now (snapshot .entry)) horizon ⌝ }
+    ensures number { λ _. ⌜ now (value .exit) ≡ lentWeight (now (snapshot .entry)) horizon (now (value .entry)) ⌝ }
 {
     let opened = read(snapshot);
+    let outcome = opened.outcome;
+    let code = code_of(outcome);
+    if code != 0 {
+        return code;
+    }
     let state = opened.state;
-    number_of(weight(state, horizon))
+    match weight(state, horizon) {
+        Weight::Accepted(w) => {
+            *value = w;
+            0
+        }
+        Weight::Rejected(n) => n,
+    }
 }

@@ -189,22 +189,20 @@ fn call_save(s: State, room: usize) {
     run_save(s, &mut cells, room);
 }
 
-// Prints the snapshot that is read from bytes, or its rejection, and the rest of the bytes.
+// Prints what the reader of snapshots gives: the rejection or 0, the bytes before the rest, the state, and the rest.
 fn call_read(last: State, data: &[u8]) -> State {
-    let r = read(data);
-    let outcome = r.outcome;
-    let next = r.state;
-    let code = code_of(outcome);
+    let mut code = 0u8;
+    let left = rest(data, &mut code);
     io::write_all(1, b"read");
     print_number(code as u64);
-    print_number(r.offset as u64);
+    print_number(left.len() as u64);
     end_line();
-    if code == 0 {
-        print_state(next);
-    }
     io::write_all(1, b"rest");
-    print_bytes(rest(data));
+    print_bytes(left);
     end_line();
+    let opened = read(data);
+    let next = opened.state;
+    print_state(next);
     if code == 0 {
         return next;
     }

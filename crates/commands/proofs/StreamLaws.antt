@@ -18,9 +18,9 @@ use Rattle.state.specs.declared.State.{State}
 use Rattle.state.specs.declared.Outcome.{Outcome}
 use Rattle.state.specs.declared.Outcome.the-variants as outcome-of
 use Rattle.state.proofs.Tests.{both, then-zero, unless-zero}
-use Rattle.ets.specs.Steps.{step, stepCode, residualOf, newSeason, newSeasonal, missing, missingCode}
-use Rattle.ets.specs.Forecasts.{forecast, forecastCode, forecastOf}
-use Rattle.ets.proofs.Kept.{reading-kept, missing-kept}
+use Rattle.ets.specs.Steps.{step, stepCode, residualOf, missing, missingCode}
+use Rattle.ets.specs.Forecasts.{forecastTo, forecastCode, forecastOf}
+use Rattle.ets.proofs.Kept.{cells-kept, reading-kept, missing-kept}
 use Rattle.weights.specs.Weights.{variance}
 use Rattle.weights.specs.declared.Variance.{Variance}
 use Rattle.weights.specs.declared.Variance.the-variants as variance-of
@@ -69,14 +69,9 @@ unfolding start
 start-sound = record { passes = λ e. absurd (false≢true e) }
 
 reading-passes : (t : State) (y : ℤ) → Passes t → stepCode t y ≡ 0 → Passes (step t y .state)
-unfolding step newSeasonal
+unfolding step
 reading-passes t y p z =
-    rw z (record {
-      checked = reading-kept t y (p .cells) z;
-      cells =
-          pick (λ (l : List ℤ). length l ≡ 48) (hasSeason (t .model)) (set (t .seasonal) (t .index) (newSeason t (residualOf t y))) (t .seasonal)
-          (λ _. length-set (t .seasonal) (t .index) (newSeason t (residualOf t y)) ∙ p .cells) (λ _. p .cells);
-    })
+    rw z (record { checked = reading-kept t y (p .cells) z; cells = cells-kept t (residualOf t y) ∙ p .cells })
 
 missing-passes : (t : State) → Passes t → missingCode t ≡ 0 → Passes (missing t .state)
 unfolding missing
@@ -142,7 +137,7 @@ module _ (s : List ℕ) (x : Session) (d : List ℕ) where
         on-outcome (Goes s x d) (missingCode (x .state)) _ _ (λ z. goes _ to _ h k (λ p. missing-passes (x .state) (same p) z) (omega arith) refl) (λ n. stays n _)
 
     forecast-goes : (j : ℕ) → Goes s x d (giveForecast x to j)
-    unfolding giveForecast forecast lineOf fieldsBytes
+    unfolding giveForecast forecastTo lineOf fieldsBytes
     forecast-goes j =
         on-answer (Goes s x d) (forecastCode (x .state) j) (forecastOf (x .state) j) _ _ (λ z. goes _ to _ h k same (omega arith) refl) (λ n. stays n _)
 

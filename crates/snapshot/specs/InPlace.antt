@@ -4,15 +4,21 @@ use mathlib.Core.List.{List}
 use lib.Dec.{eqb}
 use lib.IntN.{ℤ}
 use lib.ListN.{length}
-use Rattle.state.specs.Rejections.{unless, _then_, out-of-place, accepting}
+use Rattle.state.specs.Rejections.{unless, _then_, out-of-place, accepting, outcome}
+use Rattle.state.specs.States.{noState}
 use Rattle.state.specs.declared.State.{State}
 use Rattle.ets.specs.Steps.{stepCode, missingCode, residualOf, afterReading, afterMissing}
 use Rattle.ets.specs.Forecasts.{forecastCode, forecastOf}
+use Rattle.snapshot.specs.declared.Opened.{Opened}
 use Rattle.snapshot.specs.Snapshots.{openCode, openOffset, decoded, encoded}
 
 -- the snapshot's own rejections; then any byte after it, a command or not, is 3
 unfoldable pub inPlaceCode : List ℕ → ℕ
 inPlaceCode d = openCode d then unless (eqb (openOffset d) (length d)) out-of-place
+
+-- the call: the state that the slice holds
+unfoldable pub inPlaceRead : List ℕ → Opened
+inPlaceRead d = record { outcome = outcome (inPlaceCode d); state = accepting (inPlaceCode d) (decoded d) (λ (n : ℕ). noState) }
 
 -- a call in place is the call on the state that the snapshot holds: its rejection, the bytes that the slice then holds (as found where it is rejected), and so a lent number
 abbrev pub rejection : (State → ℕ) → List ℕ → ℕ

@@ -1,9 +1,11 @@
 // The calls on a lent slice that holds one snapshot: document 01, "Commands".
 // Each returns the rejection's number or 0; a rejected call leaves the slice and the lent number as found.
 // The snapshot is checked once. A step reads the numbers that it needs and writes those that it moves: no state is copied.
+use super::Opened;
 use super::fields::Checked;
 use super::fields::checked_at;
 use super::fields::season_ahead;
+use super::fields::state_at;
 use super::reading::scan;
 use super::saving::write_level;
 use super::saving::write_position;
@@ -17,10 +19,14 @@ use state::Answer;
 use state::COUNT_FULL;
 use state::MAX_COUNT;
 use state::OUT_OF_PLACE;
+use state::Outcome;
+use state::first;
+use state::no_state;
+use state::unless;
 ghost use mathlib.Core.Path.{_≡_};
 ghost use Prim.Native.Nat.{_+_, _<_};
 ghost use Rattle.state.specs.Fixed.{maxCount};
-ghost use Rattle.snapshot.specs.InPlace.{inPlaceStepCode, inPlaceStepBytes, inPlaceResidual, inPlaceMissingCode, inPlaceMissingBytes, inPlaceForecastCode, inPlaceForecast};
+ghost use Rattle.snapshot.specs.InPlace.{inPlaceCode, inPlaceRead, inPlaceStepCode, inPlaceStepBytes, inPlaceResidual, inPlaceMissingCode, inPlaceMissingBytes, inPlaceForecastCode, inPlaceForecast};
 ghost use Rattle.snapshot.specs.Facts.{Room, Found, movedOn, seasonPut, stored};
 
 fn unopened(code: u8) -> Checked
@@ -44,18 +50,41 @@ fn unopened(code: u8) -> Checked
 }
 
 // The slice holds one snapshot: its own rejection, then 3 for any byte after it.
+fn slice_code(snapshot: &[u8]) -> u8
+    ensures { λ r. ⌜ r ≡ inPlaceCode (now (snapshot .entry)) ⌝ }
+{
+    let found = scan(snapshot);
+    first(
+        found.code,
+        unless(found.offset == snapshot.len(), OUT_OF_PLACE),
+    )
+}
+
 fn opened(snapshot: &[u8]) -> Checked
     ensures { λ r. ⌜ Found (now (snapshot .entry)) r ⌝ }
 {
-    let found = scan(snapshot);
-    let code = found.code;
+    let code = slice_code(snapshot);
     if code != 0 {
         return unopened(code);
     }
-    if found.offset != snapshot.len() {
-        return unopened(OUT_OF_PLACE);
-    }
     checked_at(snapshot)
+}
+
+// The state that the slice holds.
+pub fn read(snapshot: &[u8]) -> Opened
+    ensures { λ r. ⌜ r ≡ inPlaceRead (now (snapshot .entry)) ⌝ }
+{
+    let code = slice_code(snapshot);
+    if code != 0 {
+        return Opened {
+            outcome: Outcome::Rejected(code),
+            state: no_state(),
+        };
+    }
+    Opened {
+        outcome: Outcome::Accepted,
+        state: state_at(snapshot),
+    }
 }
 
 // The seasonal index moves on and the count rises.

@@ -1,24 +1,65 @@
-use mathlib.Core.Path.{ap}
+use mathlib.Core.Path.{_≡_, refl, sym, ap, _∙_}
+use borrow.Author.Tests.{ne-eqb}
+use Rattle.snapshot.specs.InPlace.{inPlaceCode}
+use Rattle.bench_calls.proofs.Opened.{code-is, state-is}
+use lib.ListN.{length}
+use Rattle.state.specs.Rejections.{outcomeCode}
+use Rattle.ets.specs.Batches.{batch}
 use Rattle.ets.specs.declared.Batched.{Batched}
+use Rattle.snapshot.specs.Snapshots.{decoded}
+use Rattle.bench_calls.specs.Snapshots.{batchCode, batchTaken, batchCells}
 use borrow.Author.Needs.{needs}
 use Rattle.bench_calls.proofs.bench_batch.Statement.{statement}
 use Rattle.bench_calls.proofs.bench_batch.Tie as tie
 
+code : (c : tie.After-code-of) → c .code-of .result ≡ inPlaceCode (c .before .before .before .args .snapshot .now)
+code c = c .code-of .ensures ∙ code-is _ _ (c .before .read .ensures)
+
+-- where it is 0, the state is the one that the slice holds
+opens : (c : tie.Else1) → inPlaceCode (c .before .before .before .before .args .snapshot .now) ≡ 0
+opens c = sym (code (c .before)) ∙ c .if1 .left
+
+done : (c : tie.After-batch) → let s = c .before .before .before .before .before .before .before .args in c .batch .result ≡ batch (decoded (s .snapshot .now)) (s .readings .now) (length (s .levels .now))
+done c =
+    let i = c .before .before .before in
+    rw (state-is _ _ (i .before .before .read .ensures) (opens i)) at (c .batch .ensures .0)
+
 read-requires : tie.Need-read-requires
 read-requires c κs = search needs
+
+code-of-requires : tie.Need-code-of-requires
+code-of-requires c κs = search needs
+
+returns : tie.Need-returns
+unfolding batchCode batchTaken batchCells
+returns c = rw (← (code (c .before)), ne-eqb _ _ (c .if1 .taken)) (refl, (refl, refl))
 
 batch-requires : tie.Need-batch-requires
 batch-requires c κs = search needs
 
+code-of-requires-2 : tie.Need-code-of-requires-2
+code-of-requires-2 c κs = search needs
+
 same-length : tie.Need-same-length
 same-length c = search needs
 
-returns : tie.Need-returns
-returns c =
-    let b = c .before in
-    let o = b .before .before .before .read .ensures in
-    let t = ap (λ (r : Batched). r .taken) (b .batch .ensures .0) in
-    (rw o at t, rw o at (b .batch .ensures .1))
+returns-2 : tie.Need-returns-2
+unfolding batchCode batchTaken batchCells
+returns-2 c =
+    let b = c .before .before in
+    let i = b .before .before .before in
+    let e = done b in
+    rw (opens i)
+    (c .code-of2 .ensures ∙ ap (λ (r : Batched). outcomeCode (r .outcome)) e, (ap (λ (r : Batched). r .taken) e, b .batch .ensures .1 ∙ rw (state-is _ _ (i .before .before .read .ensures) (opens i))))
 
 pub bench-batch-spec : {M : Type 1} → statement M
-bench-batch-spec = tie.close (tie.spec read-requires batch-requires same-length returns)
+bench-batch-spec =
+    tie.close
+    (tie.spec
+    read-requires
+    code-of-requires
+    returns
+    batch-requires
+    code-of-requires-2
+    same-length
+    returns-2)

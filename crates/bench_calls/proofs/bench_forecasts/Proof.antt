@@ -1,28 +1,58 @@
-use mathlib.Core.Path.{ap, _∙_}
+use mathlib.Core.Path.{_≡_, refl, sym, ap, _∙_}
+use borrow.Author.Tests.{ne-eqb}
+use Rattle.snapshot.specs.InPlace.{inPlaceCode}
+use Rattle.bench_calls.proofs.Opened.{code-is, state-is}
 use Rattle.state.specs.Rejections.{outcomeCode}
+use Rattle.state.proofs.Answers.{outcome-code}
+use Rattle.ets.specs.Forecasts.{forecastsTo}
+use Rattle.bench_calls.specs.Snapshots.{allCode, allCells}
 use borrow.Author.Needs.{needs}
 use Rattle.bench_calls.proofs.bench_forecasts.Statement.{statement}
 use Rattle.bench_calls.proofs.bench_forecasts.Tie as tie
 
+code : (c : tie.After-code-of) → c .code-of .result ≡ inPlaceCode (c .before .before .before .args .snapshot .now)
+code c = c .code-of .ensures ∙ code-is _ _ (c .before .read .ensures)
+
+-- where it is 0, the state is the one that the slice holds
+opens : (c : tie.Else1) → inPlaceCode (c .before .before .before .before .args .snapshot .now) ≡ 0
+opens c = sym (code (c .before)) ∙ c .if1 .left
+
 read-requires : tie.Need-read-requires
 read-requires c κs = search needs
-
-forecasts-requires : tie.Need-forecasts-requires
-forecasts-requires c κs = search needs
 
 code-of-requires : tie.Need-code-of-requires
 code-of-requires c κs = search needs
 
+returns : tie.Need-returns
+unfolding allCode allCells
+returns c = rw (← (code (c .before)), ne-eqb _ _ (c .if1 .taken)) (refl, refl)
+
+forecasts-requires : tie.Need-forecasts-requires
+forecasts-requires c κs = search needs
+
+code-of-requires-2 : tie.Need-code-of-requires-2
+code-of-requires-2 c κs = search needs
+
 same-length : tie.Need-same-length
 same-length c = search needs
 
-returns : tie.Need-returns
-returns c =
-    let f = c .before .before in
-    let o = f .before .before .before .read .ensures in
-    let t = c .code-of .ensures ∙ ap outcomeCode (f .forecasts .ensures .0) in
-    (rw o at t, rw o at (f .forecasts .ensures .1))
+returns-2 : tie.Need-returns-2
+unfolding allCode allCells forecastsTo
+returns-2 c =
+    let b = c .before .before in
+    let i = b .before .before .before in
+    let s = state-is _ _ (i .before .before .read .ensures) (opens i) in
+    rw (opens i)
+    (c .code-of2 .ensures ∙ ap outcomeCode (rw s at (b .forecasts .ensures .0)) ∙ outcome-code _, rw s at (b .forecasts .ensures .1))
 
 pub bench-forecasts-spec : {M : Type 1} → statement M
 bench-forecasts-spec =
-    tie.close (tie.spec read-requires forecasts-requires code-of-requires same-length returns)
+    tie.close
+    (tie.spec
+    read-requires
+    code-of-requires
+    returns
+    forecasts-requires
+    code-of-requires-2
+    same-length
+    returns-2)

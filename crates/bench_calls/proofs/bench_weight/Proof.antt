@@ -1,23 +1,66 @@
-use mathlib.Core.Path.{ap, _∙_}
-use Rattle.bench_calls.specs.Numbers.{numberOf}
+use mathlib.Core.Path.{_≡_, refl, sym, _∙_}
+use borrow.Author.Tests.{ne-eqb}
+use Rattle.snapshot.specs.InPlace.{inPlaceCode}
+use Rattle.bench_calls.proofs.Opened.{code-is, state-is}
+use Rattle.weights.specs.Weights.{weight}
+use Rattle.snapshot.specs.Snapshots.{decoded}
+use Rattle.bench_calls.specs.Snapshots.{lentWeightCode, lentWeight}
 use borrow.Author.Needs.{needs}
 use Rattle.bench_calls.proofs.bench_weight.Statement.{statement}
 use Rattle.bench_calls.proofs.bench_weight.Tie as tie
 
+code : (c : tie.After-code-of) → c .code-of .result ≡ inPlaceCode (c .before .before .before .args .snapshot .now)
+code c = c .code-of .ensures ∙ code-is _ _ (c .before .read .ensures)
+
+-- where it is 0, the state is the one that the slice holds
+opens : (c : tie.Else1) → inPlaceCode (c .before .before .before .before .args .snapshot .now) ≡ 0
+opens c = sym (code (c .before)) ∙ c .if1 .left
+
+found : (c : tie.After-weight) → let s = c .before .before .before .before .before .before .args in c .weight .result ≡ weight (decoded (s .snapshot .now)) (s .horizon)
+found c =
+    let i = c .before .before in
+    rw (state-is _ _ (i .before .before .read .ensures) (opens i)) at (c .weight .ensures)
+
 read-requires : tie.Need-read-requires
 read-requires c κs = search needs
+
+code-of-requires : tie.Need-code-of-requires
+code-of-requires c κs = search needs
+
+returns : tie.Need-returns
+unfolding lentWeightCode lentWeight
+returns c = rw (← (code (c .before)), ne-eqb _ _ (c .if1 .taken)) (refl, refl)
 
 weight-requires : tie.Need-weight-requires
 weight-requires c κs = search needs
 
-number-of-requires : tie.Need-number-of-requires
-number-of-requires c κs = search needs
+enum-known-w : tie.Need-enum-known-w
+enum-known-w c = search needs
 
-returns : tie.Need-returns
-returns c =
-    let w = c .before in
-    let t = c .number-of .ensures ∙ ap numberOf (w .weight .ensures) in
-    rw (w .before .before .read .ensures) at t
+enum-known-n : tie.Need-enum-known-n
+enum-known-n c = search needs
+
+returns-2 : tie.Need-returns-2
+unfolding lentWeightCode lentWeight
+returns-2 c =
+    let f = c .before .before .before in
+    rw (opens (f .before .before), sym (found f) ∙ c .before .w .given .1) (refl, refl)
+
+returns-3 : tie.Need-returns-3
+unfolding lentWeightCode lentWeight
+returns-3 c =
+    let f = c .before .before .before in
+    rw (opens (f .before .before), sym (found f) ∙ c .before .n .given .1) (refl, refl)
 
 pub bench-weight-spec : {M : Type 1} → statement M
-bench-weight-spec = tie.close (tie.spec read-requires weight-requires number-of-requires returns)
+bench-weight-spec =
+    tie.close
+    (tie.spec
+    read-requires
+    code-of-requires
+    returns
+    weight-requires
+    enum-known-w
+    enum-known-n
+    returns-2
+    returns-3)

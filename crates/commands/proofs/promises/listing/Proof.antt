@@ -1,9 +1,9 @@
 -- `commands::promises::listing` meets its contract: antt computes the text.
 use mathlib.Core.Path.{refl}
-use Rattle.state.specs.Fixed.{R}
+use Rattle.state.specs.Fixed.{R, share}
 use Rattle.state.specs.States.{allBelow, check, noState}
-use Rattle.ets.specs.Steps.{dampedTrend, seasonDue, residualOf, newLevel, newTrend, newSeason, newSeasonal, nextIndex, missingCode, stepCode, step}
-use Rattle.ets.specs.Forecasts.{trendAt, trendLine, seasonAt, forecastOf, forecastCode, forecast}
+use Rattle.ets.specs.Steps.{dampedTrend, seasonDue, residual, newLevel, newTrend, newSeason, newSeasonal, nextIndex, missingCode, stepCode, step}
+use Rattle.ets.specs.Forecasts.{trendAt, trendLine, seasonAt, forecastOf, forecastCodeTo, forecastTo}
 use Rattle.weights.specs.Weights.{dampingSum, trendTerm, seasonTerm, coefficient, squares, weightOf, weight, variance}
 use Rattle.snapshot.specs.Bytes.{fromBytes}
 use Rattle.snapshot.specs.CommandTable.{commandSize, isCommand, onlyInSnapshot}
@@ -15,7 +15,7 @@ use Rattle.commands.proofs.promises.listing.Statement.{statement}
 use Rattle.commands.proofs.promises.listing.Tie as tie
 
 returns : tie.Need-returns
-unfolding R allBelow check noState dampedTrend seasonDue residualOf newLevel newTrend newSeason newSeasonal nextIndex missingCode stepCode step trendAt trendLine seasonAt forecastOf forecastCode forecast dampingSum trendTerm seasonTerm coefficient squares weightOf weight variance fromBytes commandSize isCommand onlyInSnapshot dueCode modelCode levelCode positionCode scanSeasons scan cellsAt decoded read digits digitCount decimal signedDecimal fieldsBytes lineOf commandCode operands decode start finish openSnapshot takeReading giveForecast giveVariance perform admit answersIn answersFrom answers lineAfter textOf text
+unfolding R share allBelow check noState dampedTrend seasonDue residual newLevel newTrend newSeason newSeasonal nextIndex missingCode stepCode step trendAt trendLine seasonAt forecastOf forecastCodeTo forecastTo dampingSum trendTerm seasonTerm coefficient squares weightOf weight variance fromBytes commandSize isCommand onlyInSnapshot dueCode modelCode levelCode positionCode scanSeasons scan cellsAt decoded read digits digitCount decimal signedDecimal fieldsBytes lineOf commandCode operands decode start finish openSnapshot takeReading giveForecast giveVariance perform admit answersIn answersFrom answers lineAfter textOf text
 returns c = refl
 
 pub listing-spec : {M : Type 1} → statement M

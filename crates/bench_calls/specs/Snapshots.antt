@@ -1,0 +1,36 @@
+-- The benchmark's calls on a lent slice that holds one snapshot (the paper's group): the slice's own rejections, then those of the call on its state.
+use Prim.Native.Nat.{ℕ}
+use mathlib.Core.List.{List}
+use lib.IntN.{ℤ}
+use lib.ListN.{length}
+use Rattle.state.specs.Rejections.{_then_, accepting, outcomeCode}
+use Rattle.state.specs.declared.State.{State}
+use Rattle.ets.specs.Batches.{batch, batchLevels}
+use Rattle.ets.specs.Forecasts.{forecastsCode, forecastCells}
+use Rattle.snapshot.specs.Snapshots.{decoded}
+use Rattle.snapshot.specs.InPlace.{inPlaceCode}
+use Rattle.weights.specs.Weights.{weight, weightCode, weightValue}
+
+-- a batch: the number returned, the readings taken, and the cells; the snapshot is read and not rewritten
+unfoldable pub batchCode : List ℕ → List ℤ → ℕ → ℕ
+batchCode d ys room = inPlaceCode d then outcomeCode (batch (decoded d) ys room .outcome)
+
+unfoldable pub batchTaken : List ℕ → List ℤ → ℕ → ℕ
+batchTaken d ys room = accepting (inPlaceCode d) (batch (decoded d) ys room .taken) (λ (n : ℕ). 0)
+
+unfoldable pub batchCells : List ℕ → List ℤ → List ℤ → List ℤ
+batchCells d ys cells = accepting (inPlaceCode d) (batchLevels (decoded d) ys cells) (λ (n : ℕ). cells)
+
+-- all horizons: the number returned and the cells
+unfoldable pub allCode : List ℕ → ℕ → ℕ → ℕ
+allCode d h room = inPlaceCode d then forecastsCode (decoded d) h room
+
+unfoldable pub allCells : List ℕ → ℕ → List ℤ → List ℤ
+allCells d h cells = accepting (inPlaceCode d) (forecastCells (decoded d) h cells) (λ (n : ℕ). cells)
+
+-- a weight: the number returned, and the lent number, as found where it is rejected
+unfoldable pub lentWeightCode : List ℕ → ℕ → ℕ
+lentWeightCode d h = inPlaceCode d then weightCode (weight (decoded d) h)
+
+unfoldable pub lentWeight : List ℕ → ℕ → ℕ → ℕ
+lentWeight d h old = accepting (inPlaceCode d) (weightValue (weight (decoded d) h) old) (λ (n : ℕ). old)
