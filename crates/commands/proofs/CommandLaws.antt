@@ -6,23 +6,15 @@ use mathlib.Core.List.{List}
 use native.Mathlib.Omega.{arith}
 use borrow.Author.Tests.{le-leb, lt-leb, leb-false, ne-eqb}
 use lib.Dec.{eqb, leb, eqb·suc-zero}
-use lib.IntN.{ℤ}
 use lib.ListN.{length, drop, getD, length-drop}
 use lib.Seq.{drop-cons}
-use Rattle.state.specs.Rejections.{unless, _then_, short-buffer}
+use Rattle.state.specs.Rejections.{unless, short-buffer}
 use Rattle.state.specs.States.{check}
 use Rattle.state.specs.declared.State.{State}
-use Rattle.state.specs.declared.Answer.the-variants as answer-of
 use Rattle.state.specs.declared.Outcome.the-variants as outcome-of
 use Rattle.state.proofs.Answers.{outcome-accepted}
 use Rattle.state.proofs.Tests.{then-zero}
 use Rattle.state.proofs.Passing.{bounded}
-use Rattle.ets.specs.Steps.{step, missing}
-use Rattle.ets.specs.Forecasts.{forecast}
-use Rattle.ets.specs.declared.Stepped.{Stepped}
-use Rattle.ets.specs.declared.Missed.{Missed}
-use Rattle.weights.specs.Weights.{variance}
-use Rattle.weights.specs.declared.Variance.the-variants as variance-of
 use Rattle.snapshot.specs.Answers.{lengthAnswer}
 use Rattle.snapshot.specs.Bytes.{fromBytes, unsignedAt}
 use Rattle.snapshot.specs.CommandTable.{commandSize, isCommand, onlyInSnapshot, commandLength}
@@ -33,7 +25,7 @@ use Rattle.snapshot.specs.declared.Length.the-variants as length-of
 use Rattle.snapshot.proofs.OffsetLaws.{offsets}
 use Rattle.snapshot.proofs.RoundTrip.{length-encoded}
 use Rattle.lines.specs.declared.Reply.the-variants as reply-of
-use Rattle.commands.specs.Commands.{commandCode, operands, decoded, decode, accepted, rejected, restOffset, openSnapshot, takeReading, takeMissing, giveForecast, giveVariance, saveState, act, buffered, perform, performBytes}
+use Rattle.commands.specs.Commands.{commandCode, operands, decoded, decode, accepted, rejected, restOffset, openSnapshot, act, buffered, perform, performBytes}
 use Rattle.commands.specs.declared.Session.{Session}
 use Rattle.commands.specs.declared.decoding.Command.{Command}
 use Rattle.commands.specs.declared.decoding.Command.the-variants as command-of
@@ -169,50 +161,6 @@ pub opened-accepted : (s : List ℕ) (x : Session) (g : Opened) → openCode (dr
     → openSnapshot s x ≡ accepted (reply-of.Opened (g .state .model) (g .state .period)) (restOffset s (x .at)) (g .state)
 unfolding openSnapshot
 opened-accepted s x g z q = rw (z, ← q)
-
-module _ (x : Session) (next : ℕ) where
-  pub reading-accepted : (y : ℤ) (t : Stepped) (e : ℤ) → t ≡ step (x .state) y → t .residual ≡ answer-of.Accepted e
-      → takeReading x next y ≡ accepted (reply-of.Residual e) next (t .state)
-  unfolding takeReading
-  reading-accepted y t e q h = rw (← q, h)
-
-  pub reading-rejected : (y : ℤ) (t : Stepped) (n : ℕ) → t ≡ step (x .state) y → t .residual ≡ answer-of.Rejected n
-      → takeReading x next y ≡ rejected n (x .at) x
-  unfolding takeReading
-  reading-rejected y t n q h = rw (← q, h)
-
-  pub missing-accepted : (t : Missed) → t ≡ missing (x .state) → t .outcome ≡ outcome-of.Accepted → takeMissing x next ≡ accepted reply-of.Missing next (t .state)
-  unfolding takeMissing
-  missing-accepted t q h = rw (← q, h)
-
-  pub missing-rejected : (t : Missed) (n : ℕ) → t ≡ missing (x .state) → t .outcome ≡ outcome-of.Rejected n → takeMissing x next ≡ rejected n (x .at) x
-  unfolding takeMissing
-  missing-rejected t n q h = rw (← q, h)
-
-  pub forecast-accepted : (h : ℕ) (v : ℤ) → forecast (x .state) h ≡ answer-of.Accepted v → giveForecast x next h ≡ accepted (reply-of.Forecast h v) next (x .state)
-  unfolding giveForecast
-  forecast-accepted h v e = rw e
-
-  pub forecast-rejected : (h n : ℕ) → forecast (x .state) h ≡ answer-of.Rejected n → giveForecast x next h ≡ rejected n (x .at) x
-  unfolding giveForecast
-  forecast-rejected h n e = rw e
-
-  pub variance-accepted : (h k high low : ℕ) → variance (x .state) h k ≡ variance-of.Accepted high low
-      → giveVariance x next h k ≡ accepted (reply-of.Variance h high low) next (x .state)
-  unfolding giveVariance
-  variance-accepted h k high low e = rw e
-
-  pub variance-rejected : (h k n : ℕ) → variance (x .state) h k ≡ variance-of.Rejected n → giveVariance x next h k ≡ rejected n (x .at) x
-  unfolding giveVariance
-  variance-rejected h k n e = rw e
-
-  pub save-accepted : (room : ℕ) → save (x .state) room ≡ outcome-of.Accepted → saveState x next room ≡ accepted (reply-of.Saved (length (encoded (x .state)))) next (x .state)
-  unfolding saveState
-  save-accepted room e = rw e
-
-  pub save-rejected : (room n : ℕ) → save (x .state) room ≡ outcome-of.Rejected n → saveState x next room ≡ rejected n (x .at) x
-  unfolding saveState
-  save-rejected room n e = rw e
 
 -- ---- the command that was decoded is performed
 module _ (s : List ℕ) (x : Session) (d : Decoded) (k : Command) (q : d ≡ decode s (x .at) (x .active)) (e : d .command ≡ k) where

@@ -1,9 +1,8 @@
 -- `commands::performing::save_state` meets its contract.
 use borrow.Author.Needs.{needs}
-use Rattle.commands.specs.Commands.{accepted}
-use Rattle.lines.specs.declared.Reply.the-variants as reply-of
-use Rattle.commands.proofs.CommandLaws.{saves, save-accepted, save-rejected}
-use mathlib.Core.Path.{refl, sym, ap, _∙_}
+use Rattle.commands.specs.Commands.{saveState}
+use Rattle.commands.proofs.CommandLaws.{saves}
+use mathlib.Core.Path.{sym, _∙_}
 use Rattle.commands.proofs.performing.save_state.Statement.{statement}
 use Rattle.commands.proofs.performing.save_state.Tie as tie
 
@@ -29,21 +28,19 @@ same-length : tie.Need-same-length
 same-length c = search needs
 
 returns : tie.Need-returns
+unfolding saveState
 returns c =
-    let a = c .before .before .before .before .before .before .before .before .before .before .args in
-    let e = sym (c .before .before .before .before .before .before .save .ensures .0) ∙ c .before .before .enum-told .given .1 in (
-      rw (c .before .saved-length .ensures) at (c .accept .ensures) ∙ sym (save-accepted (a .x) (a .next) _ e),
-      c .before .before .before .before .before .before .save .ensures .1,
-    )
+    let r = c .before .before .before .before .before .before .save .ensures in
+    (rw (← (r .0), c .before .before .enum-told .given .1, ← (c .before .saved-length .ensures)) (c .accept .ensures), r .1)
 
 same-length-2 : tie.Need-same-length-2
 same-length-2 c = search needs
 
 returns-2 : tie.Need-returns-2
+unfolding saveState
 returns-2 c =
-    let a = c .before .before .before .before .before .before .before .before .before .before .args in
-    let e = sym (c .before .before .before .before .before .before .save .ensures .0) ∙ c .before .before .outcome .given .1 in
-    (c .reject .ensures ∙ sym (save-rejected (a .x) (a .next) _ _ e), c .before .before .before .before .before .before .save .ensures .1)
+    let r = c .before .before .before .before .before .before .save .ensures in
+    (rw (← (r .0), c .before .before .outcome .given .1) (c .reject .ensures), r .1)
 
 pub save-state-spec : {M : Type 1} → statement M
 save-state-spec =
