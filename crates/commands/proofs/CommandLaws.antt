@@ -15,13 +15,14 @@ use Rattle.state.specs.declared.Outcome.the-variants as outcome-of
 use Rattle.state.proofs.Answers.{outcome-accepted}
 use Rattle.state.proofs.Tests.{then-zero}
 use Rattle.state.proofs.Passing.{bounded}
-use Rattle.snapshot.specs.Answers.{lengthAnswer}
+use Rattle.snapshot.specs.Answers.{lengthAnswer, lengthValue}
 use Rattle.snapshot.specs.Bytes.{fromBytes, unsignedAt}
 use Rattle.snapshot.specs.CommandTable.{commandSize, isCommand, onlyInSnapshot, commandLength}
 use Rattle.snapshot.specs.Layout.{sizeOf}
 use Rattle.snapshot.specs.Snapshots.{openCode, openOffset, read, restOf, bytesNeeded, encoded, save, saveCode}
 use Rattle.snapshot.specs.declared.Opened.{Opened}
 use Rattle.snapshot.specs.declared.Length.the-variants as length-of
+use Rattle.snapshot.proofs.AnswerLaws.{lengths}
 use Rattle.snapshot.proofs.OffsetLaws.{offsets}
 use Rattle.snapshot.proofs.RoundTrip.{length-encoded}
 use Rattle.lines.specs.declared.Reply.the-variants as reply-of
@@ -88,22 +89,21 @@ table-rejected b n e =
     let k = unknown-is (isCommand b) (q .0) in
     (k, rw k at (q .1))
 
-pub needed : (s : State) (n : ℕ) → check s ≡ 0 → bytesNeeded s ≡ length-of.Bytes n → n ≡ length (encoded s)
-unfolding bytesNeeded
-needed s n z e = of-bytes (sizeOf (s .period)) n (check s) e .1 ∙ sym (length-encoded s)
-
-pub not-rejected : (s : State) (n : ℕ) → check s ≡ 0 → bytesNeeded s ≡ length-of.Rejected n → ⊥
-unfolding bytesNeeded
-not-rejected s n z e = of-rejected (sizeOf (s .period)) n (check s) e .0 z
-
 pub snapshot-most : (s : State) → check s ≡ 0 → length (encoded s) ≤ 526
 snapshot-most s e = omega (arith, length-encoded s, bounded s e .period)
 
-pub saves : (s : State) (room : ℕ) → save s room ≡ outcome-of.Accepted → (check s ≡ 0) × (saveCode s room ≡ 0)
-unfolding save saveCode
-saves s room e =
-    let z = outcome-accepted (saveCode s room) e in
-    (then-zero (check s) (unless (leb (sizeOf (s .period)) room) short-buffer) z .0, z)
+-- what was saved passes its checks, and the bytes that were told are its snapshot's
+module _ (s : State) (room : ℕ) (e : save s room ≡ outcome-of.Accepted) where
+  passes : check s ≡ 0
+  unfolding save saveCode
+  passes = then-zero (check s) (unless (leb (sizeOf (s .period)) room) short-buffer) (outcome-accepted (saveCode s room) e) .0
+
+  pub count-is : lengthValue (bytesNeeded s) ≡ length (encoded s)
+  unfolding bytesNeeded
+  count-is = lengths (check s) (sizeOf (s .period)) .value passes ∙ sym (length-encoded s)
+
+  pub count-most : lengthValue (bytesNeeded s) ≤ 526
+  count-most = rw count-is (snapshot-most s passes)
 
 -- ---- a command is decoded: the end, then 2, 3, 4, then its operands
 module _ (s : List ℕ) (at : ℕ) (active : Bool) where
