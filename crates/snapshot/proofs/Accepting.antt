@@ -1,23 +1,21 @@
 -- What an accepted snapshot has, command for command, and that what has it is accepted.
 use Prim.Native.Nat.{ℕ, zero, suc, _+_, _-_, _≤_, _<_}
-use mathlib.Core.Path.{_≡_, refl, sym, ap, _∙_}
-use mathlib.Core.Bool.{true, false, cond, _&&_}
-use mathlib.Core.Logic.{_⊎_, inl, inr, ⊎-elim}
+use mathlib.Core.Path.{_≡_, refl, ap}
+use mathlib.Core.Bool.{true, _&&_}
 use mathlib.Core.List.{List}
-use native.Mathlib.Nat.{add-suc, add-zero, le-of-suc-le-suc, not-suc-le-zero}
 use native.Mathlib.Decide.{decLe}
 use native.Mathlib.Omega.{arith}
-use borrow.Author.Tests.{ltb-true, leb-true, eqb-true, lt-ltb, le-ltb, le-leb, lt-leb, eq-eqb, ne-eqb}
-use lib.Dec.{eqb, ltb, leb, eqb·suc-zero}
+use borrow.Author.Tests.{ltb-true, leb-true, eqb-true, lt-ltb, le-leb, eq-eqb}
+use lib.Dec.{eqb, ltb, eqb·suc-zero}
 use lib.ListN.{length, getD}
-use Rattle.state.specs.Rejections.{unless, _then_, unknown-command, out-of-place, truncated}
+use Rattle.state.specs.Rejections.{unless, unknown-command, out-of-place, truncated}
 use Rattle.state.specs.Fixed.{inRange}
 use Rattle.state.specs.Models.{hasSeason, validModel, periodOk, parametersOk}
 use Rattle.state.specs.States.{trendOk, indexOk, countOk}
 use Rattle.state.proofs.Passing.{period-le}
 use Rattle.state.proofs.Tests.{both, unless-zero, then-zero}
 use Rattle.snapshot.specs.CommandTable.{commandSize, isCommand, modelLength, levelLength, seasonLength, positionLength}
-use Rattle.snapshot.specs.Layout.{modelAt, levelAt, seasonAt, positionAt, sizeOf, modelIn, periodIn, alphaIn, betaIn, gammaIn, phiIn, levelIn, trendIn, placeIn, seasonIn, indexIn, countIn}
+use Rattle.snapshot.specs.Layout.{modelAt, levelAt, seasonAt, positionAt, sizeOf, modelIn, periodIn, alphaIn, betaIn, gammaIn, phiIn, levelIn, trendIn, seasonIndexIn, seasonIn, indexIn, countIn}
 use Rattle.snapshot.specs.Snapshots.{dueCode, modelCode, levelCode, seasonCode, positionCode, finished, scanPosition, scanSeasons, scan, openCode, openOffset}
 use Rattle.snapshot.specs.Facts.{Room}
 use Rattle.snapshot.specs.declared.reading.Scanned.{Scanned}
@@ -83,7 +81,7 @@ is-level c = rw (is-due refl (omega arith) (c .due), c .values)
 -- ---- the command 12 of index k
 pub record Season (s : List ℕ) (k : ℕ) : Type 0 where
   pub due : Due s (seasonAt k) 0x12 seasonLength
-  pub index : placeIn s k ≡ k
+  pub index : seasonIndexIn s k ≡ k
   pub value : inRange (seasonIn s k) ≡ true
 
 pub season : (s : List ℕ) (k : ℕ) → seasonCode s k ≡ 0 → Season s k
@@ -91,7 +89,7 @@ unfolding seasonCode commandSize
 season s k h =
     let c = then-zero _ _ h in
     let d = then-zero _ _ (c .1) in
-    record { due = due s (seasonAt k) 0x12 (c .0); index = eqb-true (placeIn s k) k (unless-zero _ 7 (d .0)); value = unless-zero _ 8 (d .1) }
+    record { due = due s (seasonAt k) 0x12 (c .0); index = eqb-true (seasonIndexIn s k) k (unless-zero _ 7 (d .0)); value = unless-zero _ 8 (d .1) }
 
 is-season : {s : List ℕ} {k : ℕ} → Season s k → seasonCode s k ≡ 0
 unfolding seasonCode isCommand commandSize

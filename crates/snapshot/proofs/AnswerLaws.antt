@@ -1,6 +1,6 @@
 -- What the enum Length tells of the rejection and the number that it was made of.
-use Prim.Native.Nat.{ℕ, zero, suc}
-use mathlib.Core.Path.{_≡_, refl}
+use Prim.Native.Nat.{zero, suc}
+use mathlib.Core.Path.{refl}
 use native.Mathlib.Omega.{arith}
 use lib.Dec.{eqb·suc-zero}
 use Rattle.snapshot.specs.Promises.{Lengths}

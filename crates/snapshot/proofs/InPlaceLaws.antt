@@ -2,7 +2,7 @@
 use Prim.Native.Nat.{ℕ}
 use mathlib.Core.Path.{_≡_, refl, _∙_}
 use mathlib.Core.Bool.{Bool, true, false, cond}
-use mathlib.Core.List.{List, [], append-nil}
+use mathlib.Core.List.{[], append-nil}
 use borrow.Author.Tests.{eq-eqb, eqb-true}
 use lib.Dec.{eqb}
 use lib.IntN.{ℤ}
@@ -14,8 +14,7 @@ use Rattle.ets.specs.Steps.{stepCode, missingCode, residualOf, afterReading, af
 use Rattle.ets.specs.Forecasts.{forecastCode, forecastOf}
 use Rattle.ets.proofs.Kept.{reading-kept, missing-kept}
 use Rattle.snapshot.specs.Answers.{accepting}
-use Rattle.snapshot.specs.Bytes.{AreBytes}
-use Rattle.snapshot.specs.Snapshots.{openCode, openOffset, decoded, encoded}
+use Rattle.snapshot.specs.Snapshots.{decoded, encoded}
 use Rattle.snapshot.specs.InPlace.{inPlaceCode, rejection, bytesAfter, numberAfter, inPlaceStepCode, inPlaceStepBytes, inPlaceResidual, inPlaceMissingCode, inPlaceMissingBytes, inPlaceForecastCode, inPlaceForecast}
 use Rattle.snapshot.specs.Promises.{StepInPlace, MissingInPlace, ForecastInPlace, InPlaceIsDirect}
 use Rattle.snapshot.proofs.RoundTrip.{read-back, accepted-passes, length-decoded, whole}

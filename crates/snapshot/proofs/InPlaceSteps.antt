@@ -11,7 +11,7 @@ use lib.IntN.{ℤ, pos}
 use lib.ListN.{length, getD, set}
 use Rattle.integers.specs.Bounds.{Within}
 use Rattle.integers.proofs.Bounds.{within-zero}
-use Rattle.state.specs.Rejections.{unless, _then_, out-of-place, count-full}
+use Rattle.state.specs.Rejections.{unless, out-of-place, count-full}
 use Rattle.state.specs.Fixed.{maxCount}
 use Rattle.state.specs.Models.{hasSeason}
 use Rattle.state.specs.States.{check, indexOk, countOk}
@@ -19,18 +19,17 @@ use Rattle.state.specs.declared.State.{State}
 use Rattle.state.proofs.Passing.{bounded, no-season, with-season}
 use Rattle.state.proofs.Tests.{both, then-zero, unless-zero}
 use Rattle.ets.specs.Steps.{residualOf, newLevel, newTrend, newSeason, newSeasonal, nextIndex, afterReading, afterMissing, corrected, stepCode, missingCode}
-use Rattle.ets.specs.Forecasts.{seasonAt as seasonAhead, forecastCode, forecastOf}
+use Rattle.ets.specs.Forecasts.{seasonAt as seasonAhead}
 use Rattle.ets.specs.Updates.{numbersOf, updateOf}
 use Rattle.ets.specs.declared.Numbers.{Numbers}
 use Rattle.ets.specs.declared.Update.{Update}
 use Rattle.ets.proofs.UpdateLaws.{update-code, update-is, step-room}
-use Rattle.snapshot.specs.Answers.{accepting}
 use Rattle.snapshot.specs.Bytes.{AreBytes}
 use Rattle.snapshot.specs.Layout.{periodIn, seasonIn, indexIn, countIn, modelBytes}
 use Rattle.snapshot.specs.Snapshots.{openCode, openOffset, cellsAt, decoded, encoded}
 use Rattle.snapshot.specs.InPlace.{inPlaceCode, rejection, bytesAfter, numberAfter}
-use Rattle.snapshot.specs.Facts.{Room, numbersIn, aheadIn, Held, movedOn, seasonPut, stored}
-use Rattle.snapshot.specs.declared.in_place.Checked.{Checked}
+use Rattle.snapshot.specs.Facts.{Room, numbersIn, checkedIn, aheadIn, Held, Found, movedOn, seasonPut, stored}
+use Rattle.snapshot.specs.declared.fields.Checked.{Checked}
 use Rattle.snapshot.proofs.Accepting.{accepted, accepted-room}
 use Rattle.snapshot.proofs.RoundTrip.{length-model, cell-read, cell-none, accepted-passes, length-decoded, whole}
 use Rattle.snapshot.proofs.Patches.{snapshotOf, level-written, season-written, position-written}
@@ -61,18 +60,18 @@ module _ (d : List ℕ) (ok : openCode d ≡ 0) where
       go false e =
           sym (cell-read d (periodIn d) (indexIn d (periodIn d)) (accepted-room d ok .period) (ltb-true (indexIn d (periodIn d)) (periodIn d) (rw e at index-in)))
 
-  numbers-are : numbersIn d (periodIn d) (indexIn d (periodIn d)) ≡ numbersOf (decoded d)
+  numbers-are : numbersIn d ≡ numbersOf (decoded d)
   unfolding decoded
   numbers-are = rw season-due
 
-pub held : (d : List ℕ) → AreBytes d → inPlaceCode d ≡ 0 → (x : Checked) → x .period ≡ periodIn d → x .index ≡ indexIn d (periodIn d) → x .numbers ≡ numbersIn d (periodIn d) (indexIn d (periodIn d)) → Held d x
+pub held : (d : List ℕ) → AreBytes d → inPlaceCode d ≡ 0 → Held d (checkedIn d)
 unfolding decoded
-held d b z x m p n =
+held d b z =
     let o = one-snapshot d z in
     record {
-      period = m;
-      index = p;
-      numbers = n ∙ numbers-are d (o .0);
+      period = refl;
+      index = refl;
+      numbers = numbers-are d (o .0);
       passes = accepted-passes d (o .0);
       whole = whole d b (o .0) (o .1);
       room = accepted-room d (o .0);
@@ -197,22 +196,20 @@ module _ (d : List ℕ) (x : Checked) (h : Held d x) where
   unfolding missingCode
   free-is n = rw (h .passes, ne-eqb (decoded d .count) maxCount (λ e. n (count-is ∙ e)))
 
--- ---- a call by its rejection: before the state is looked at, and past that
-module _ (code : State → ℕ) (d : List ℕ) where
-  pub before : (inPlaceCode d ≡ 0 → ⊥) → rejection code d ≡ inPlaceCode d
-  before n = rw (ne-eqb (inPlaceCode d) 0 n)
+-- ---- a call by its rejection: that of the slice, that of the state, or none
+module _ (d : List ℕ) (x : Checked) (f : Found d x) where
+  pub holds : x .code ≡ 0 → Held d x
+  holds z = f .held (sym (f .code) ∙ z)
 
-  pub past : inPlaceCode d ≡ 0 → rejection code d ≡ code (decoded d)
-  past z = rw z
+  pub unopened : (code : State → ℕ) → (x .code ≡ 0 → ⊥) → x .code ≡ rejection code d
+  unopened code n = f .code ∙ sym (rw (ne-eqb (inPlaceCode d) 0 (λ z. n (f .code ∙ z))))
 
-  pub bytes-rejected : (next : State → State) (n : ℕ) → rejection code d ≡ n → (n ≡ 0 → ⊥) → d ≡ bytesAfter code next d
-  bytes-rejected next n e h = rw (e, ne-eqb n 0 h)
+  pub opened : (code : State → ℕ) → x .code ≡ 0 → (n : ℕ) → n ≡ code (decoded d) → n ≡ rejection code d
+  opened code z n e = rw (sym (f .code) ∙ z) e
 
-  pub number-rejected : (value : State → ℤ) (old : ℤ) (n : ℕ) → rejection code d ≡ n → (n ≡ 0 → ⊥) → old ≡ numberAfter code value d old
-  number-rejected value old n e h = rw (e, ne-eqb n 0 h)
+module _ (code : State → ℕ) (next : State → State) (value : State → ℤ) (d : List ℕ) (old : ℤ) where
+  pub rejected : (n : ℕ) → n ≡ rejection code d → (n ≡ 0 → ⊥) → (d ≡ bytesAfter code next d) × (old ≡ numberAfter code value d old)
+  rejected n e h = rw (← e, ne-eqb n 0 h) (refl, refl)
 
-  pub bytes-accepted : (next : State → State) → rejection code d ≡ 0 → bytesAfter code next d ≡ encoded (next (decoded d))
-  bytes-accepted next e = rw e
-
-  pub number-accepted : (value : State → ℤ) (old : ℤ) → rejection code d ≡ 0 → numberAfter code value d old ≡ value (decoded d)
-  number-accepted value old e = rw e
+  pub accepted-call : 0 ≡ rejection code d → (encoded (next (decoded d)) ≡ bytesAfter code next d) × (value (decoded d) ≡ numberAfter code value d old)
+  accepted-call e = rw (← e) (refl, refl)

@@ -1,6 +1,6 @@
 -- The offset of a rejection lies in the stream; rejection 4 tells the stream's length where no command is begun.
 use Prim.Native.Nat.{ℕ, zero, suc, _+_, _-_, _≤_, _<_}
-use mathlib.Core.Path.{_≡_, refl, sym, ap, _∙_}
+use mathlib.Core.Path.{_≡_, refl}
 use mathlib.Core.Bool.{Bool, true, false, _&&_}
 use mathlib.Core.Logic.{_⊎_, inl, inr}
 use mathlib.Core.List.{List}
@@ -13,9 +13,9 @@ use Rattle.state.specs.Fixed.{inRange}
 use Rattle.state.specs.Models.{validModel, periodOk, parametersOk}
 use Rattle.state.specs.States.{trendOk, indexOk, countOk}
 use Rattle.snapshot.specs.CommandTable.{commandSize, isCommand}
-use Rattle.snapshot.specs.Layout.{modelAt, levelAt, seasonAt, positionAt, sizeOf, modelIn, periodIn, alphaIn, betaIn, gammaIn, phiIn, levelIn, trendIn, placeIn, seasonIn, indexIn, countIn}
+use Rattle.snapshot.specs.Layout.{modelAt, levelAt, seasonAt, positionAt, sizeOf, modelIn, periodIn, alphaIn, betaIn, gammaIn, phiIn, levelIn, trendIn, seasonIndexIn, seasonIn, indexIn, countIn}
 use Rattle.snapshot.specs.Snapshots.{dueCode, modelCode, levelCode, seasonCode, positionCode, finished, scanPosition, scanSeasons, scan}
-use Rattle.snapshot.specs.Promises.{Offsets, Located}
+use Rattle.snapshot.specs.Promises.{Offsets}
 use Rattle.snapshot.specs.declared.reading.Scanned.{Scanned}
 use Rattle.snapshot.proofs.Accepting.{model, level, season, position}
 
@@ -61,7 +61,7 @@ finished-at s at (suc n) r l c k = rw (eqb·suc-zero n) (l, c)
 season-cut : (s : List ℕ) (k : ℕ) → seasonAt k ≤ length s → seasonCode s k ≡ 4 → Cut s (seasonAt k)
 unfolding seasonCode
 season-cut s k l h =
-    let i = eqb (placeIn s k) k in
+    let i = eqb (seasonIndexIn s k) k in
     let v = inRange (seasonIn s k) in
     due-cut s (seasonAt k) 0x12 l
     (later (dueCode s (seasonAt k) 0x12) (unless i 8 then unless v 9) h (not-both (unless i 8) (unless v 9) (not-one i 8 (λ e. omega arith)) (not-one v 9 (λ e. omega arith))))

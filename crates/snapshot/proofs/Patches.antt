@@ -2,13 +2,13 @@
 use Prim.Native.Nat.{ℕ, zero, suc, _+_, _*_, _≤_, _<_}
 use mathlib.Core.Path.{_≡_, refl, sym, ap, _∙_}
 use mathlib.Core.Logic.{⊎-elim}
-use mathlib.Core.List.{List, [], _++_, append-assoc, append-nil}
+use mathlib.Core.List.{List, _++_, append-assoc, append-nil}
 use native.Mathlib.Nat.{zero-add, le-of-suc-le-suc, eq-or-lt-of-le, not-suc-le-zero}
 use native.Mathlib.Omega.{arith}
 use lib.IntN.{ℤ, pos}
 use lib.ListN.{length, length-append, getD, set}
 use lib.Seq.{sets, sets-eq, take-append-add, drop-append-add, take-append-le, drop-append-le, drop-length, getD-set-same, getD-set-other}
-use Rattle.snapshot.specs.CommandTable.{modelLength, levelLength, seasonLength, positionLength}
+use Rattle.snapshot.specs.CommandTable.{modelLength, seasonLength, positionLength}
 use Rattle.snapshot.specs.Layout.{levelAt, seasonAt, positionAt, levelBytes, seasonBytes, seasonsBytes, positionBytes}
 use Rattle.snapshot.proofs.RoundTrip.{length-level, length-season, length-seasons, length-position}
 

@@ -6,11 +6,11 @@ use mathlib.Core.Logic.{⊎-elim}
 use mathlib.Core.List.{List, _∷_, _++_, append-assoc}
 use native.Mathlib.Nat.{le-refl, zero-add, add-zero, le-of-suc-le-suc, eq-or-lt-of-le, not-suc-le-zero, lt-of-le-of-lt}
 use native.Mathlib.Omega.{arith}
-use borrow.Author.Tests.{eqb-true, ltb-true, ltb-false, le-leb, lt-ltb, le-ltb}
+use borrow.Author.Tests.{eqb-true, ltb-true, ltb-false, le-leb, lt-ltb, ne-eqb}
 use lib.Dec.{lit<, eqb, ltb}
 use lib.IntN.{ℤ, pos}
-use lib.ListN.{length, length-append, length-drop, length-set, getD-replicate, take, drop, getD, replicate, take-append-drop}
-use lib.Seq.{getD-drop, drop-drop, drop-at, take-at, drop-cons, take-suc, set-at, length-take-le, take-all, append-snoc, ext-getD, getD-set-same, getD-set-other, take-add, sets, sets-eq}
+use lib.ListN.{length, length-append, length-set, getD-replicate, take, drop, getD}
+use lib.Seq.{getD-drop, drop-drop, drop-at, take-at, drop-cons, length-take-le, take-all, ext-getD, getD-set-same, getD-set-other, take-add, sets, sets-eq}
 use mir.Syntax.{w64}
 use mir.Val.{SFits, ofZ}
 use Rattle.integers.specs.Bounds.{Within}
@@ -20,12 +20,12 @@ use Rattle.state.specs.Models.{trendOf, seasonOf, validModel}
 use Rattle.state.specs.States.{check, cellOk}
 use Rattle.state.specs.declared.State.{State}
 use Rattle.state.proofs.Tests.{both, model-law, allBelow-at, allBelow-all, zero-is}
-use Rattle.state.proofs.Passing.{Passed, passed, passes, Bounded, bounded}
+use Rattle.state.proofs.Passing.{Passed, passed, passes, Bounded, bounded, no-state}
 use Rattle.snapshot.specs.Bytes.{AreBytes, toBytes, signedBytes, unsignedAt}
 use Rattle.snapshot.specs.CommandTable.{modelLength, levelLength, seasonLength, positionLength}
-use Rattle.snapshot.specs.Layout.{modelAt, levelAt, seasonAt, positionAt, sizeOf, modelIn, periodIn, alphaIn, betaIn, gammaIn, phiIn, levelIn, trendIn, placeIn, seasonIn, indexIn, countIn, modelByte, modelBytes, levelBytes, seasonBytes, seasonsBytes, positionBytes}
+use Rattle.snapshot.specs.Layout.{modelAt, levelAt, seasonAt, positionAt, sizeOf, modelIn, periodIn, alphaIn, betaIn, gammaIn, phiIn, levelIn, trendIn, seasonIn, indexIn, countIn, modelByte, modelBytes, levelBytes, seasonBytes, seasonsBytes, positionBytes}
 use Rattle.snapshot.specs.Snapshots.{openCode, openOffset, cellsAt, decoded, encoded, save, saveCode, savedBytes, read, restOf}
-use Rattle.snapshot.specs.Promises.{ReadsSaved, SavesRead}
+use Rattle.snapshot.specs.Promises.{ReadsSaved, SavesRead, RejectedState}
 use Rattle.snapshot.specs.declared.reading.Scanned.{Scanned}
 use Rattle.snapshot.proofs.ByteLaws.{length-toBytes, unsigned-back, signed-back, unsigned-again, signed-again}
 use Rattle.snapshot.proofs.Accepting.{Due, Season, Accepted, accepted, accepts, accepted-size, period-most}
@@ -63,11 +63,11 @@ module _ (x : List ℕ) (at first k : ℕ) (bs u : List ℕ) (e : drop at x ≡ 
   byte-at : getD x at 0 ≡ first
   byte-at = rw (add-zero at) at (sym (getD-drop at x 0 0)) ∙ ap (λ (l : List ℕ). getD l 0 0) e
 
-  index-at : (a : ℕ) → a ≡ at + 1 → getD x a 0 ≡ k
-  index-at a q = rw q (sym (getD-drop at x 1 0) ∙ ap (λ (l : List ℕ). getD l 1 0) e)
+  index-at : getD x (at + 1) 0 ≡ k
+  index-at = sym (getD-drop at x 1 0) ∙ ap (λ (l : List ℕ). getD l 1 0) e
 
-  operand-at : (a n : ℕ) → a ≡ at + 2 → length bs ≡ n → take n (drop a x) ≡ bs
-  operand-at a n q l = rw (q, ← (drop-drop 2 at x), e) (take-at bs u n l)
+  operand-at : (n : ℕ) → length bs ≡ n → take n (drop (at + 2) x) ≡ bs
+  operand-at n l = rw (← (drop-drop 2 at x), e) (take-at bs u n l)
 
 -- the command of place k among those of n places
 season-at : (cells : List ℤ) (n k : ℕ) (u : List ℕ) → k < n
@@ -91,6 +91,27 @@ model-again b h =
 -- a value in range has 64 bits
 pub fits : {v : ℤ} → Within 1099511627776 v → SFits w64 v
 fits w = within-fits w64 w (lit< tt)
+
+-- ---- the season cells that were read
+pub length-cells : (s : List ℕ) (n : ℕ) → length (cellsAt s n) ≡ 48
+unfolding cellsAt
+length-cells s zero = refl
+length-cells s (suc n) = length-set (cellsAt s n) n (seasonIn s n) ∙ length-cells s n
+
+pub cell-read : (s : List ℕ) (n k : ℕ) → n ≤ 48 → k < n → getD (cellsAt s n) k (pos 0) ≡ seasonIn s k
+unfolding cellsAt
+cell-read s zero k h l = absurd (not-suc-le-zero l)
+cell-read s (suc n) k h l =
+    ⊎-elim
+    (λ (q : k ≡ n). rw q (getD-set-same (cellsAt s n) n (seasonIn s n) (pos 0) (rw (length-cells s n) h)))
+    (λ (lt : k < n). getD-set-other (cellsAt s n) n k (seasonIn s n) (pos 0) (λ q. omega arith) ∙ cell-read s n k (omega arith) lt)
+    (eq-or-lt-of-le (le-of-suc-le-suc l))
+
+pub cell-none : (s : List ℕ) (n k : ℕ) → k < 48 → n ≤ k → getD (cellsAt s n) k (pos 0) ≡ pos 0
+unfolding cellsAt
+cell-none s zero k h l = getD-replicate 48 k (pos 0) (pos 0) h
+cell-none s (suc n) k h l =
+    getD-set-other (cellsAt s n) n k (seasonIn s n) (pos 0) (λ q. omega arith) ∙ cell-none s n k h (omega arith)
 
 module _ (s : State) (t : List ℕ) (p : Passed s) (b : Bounded s) where
   abbrev x : List ℕ
@@ -127,51 +148,35 @@ module _ (s : State) (t : List ℕ) (p : Passed s) (b : Bounded s) where
 
   -- place k
   module _ (k : ℕ) (l : k < s .period) where
-    abbrev cell : ℤ
-    cell = getD (s .seasonal) k (pos 0)
+    abbrev value : ℤ
+    value = getD (s .seasonal) k (pos 0)
 
-    command : (v : List ℕ) × (drop (seasonAt k) x ≡ seasonBytes k cell ++ v)
+    command : (v : List ℕ) × (drop (seasonAt k) x ≡ seasonBytes k value ++ v)
     command = rw (after (seasonLength * k)) (season-at (s .seasonal) (s .period) k (positionBytes (s .index) (s .count) ++ t) l)
 
-    cell-back : seasonIn x k ≡ cell
+    cell-back : seasonIn x k ≡ value
     unfolding seasonBytes
     cell-back =
-        signed-back x (seasonAt k + 2) cell
-        (operand-at x (seasonAt k) 0x12 k (signedBytes cell) (command .0) (command .1) (seasonAt k + 2) 8 refl (length-toBytes 8 (ofZ w64 cell)))
+        signed-back x (seasonAt k + 2) value
+        (operand-at x (seasonAt k) 0x12 k (signedBytes value) (command .0) (command .1) 8 (length-toBytes 8 (ofZ w64 value)))
         (fits (b .cells k (omega (arith, b .period))))
 
     season-back : Season x k
     unfolding seasonBytes
     season-back =
         record {
-          due = record { byte = byte-at x (seasonAt k) 0x12 k (signedBytes cell) (command .0) (command .1); room = omega (arith, size) };
-          index = index-at x (seasonAt k) 0x12 k (signedBytes cell) (command .0) (command .1) (seasonAt k + 1) refl;
+          due = record { byte = byte-at x (seasonAt k) 0x12 k (signedBytes value) (command .0) (command .1); room = omega (arith, size) };
+          index = index-at x (seasonAt k) 0x12 k (signedBytes value) (command .0) (command .1);
           value = rw cell-back (rw (lt-ltb k (s .period) l) at (cell-ok k (omega (arith, b .period))));
         }
 
-  -- the season cells, place for place
-  cells-back : (n : ℕ) → n ≤ s .period → length (s .seasonal) ≡ 48 → cellsAt x n ≡ take n (s .seasonal) ++ drop n (replicate 48 (pos 0))
-  unfolding cellsAt
-  cells-back zero h l = refl
-  cells-back (suc n) h l =
-      let z : n < length (s .seasonal) = omega (arith, b .period) in
-      let r : n < length (replicate 48 (pos 0)) = omega (arith, b .period) in
-      let e : drop n (replicate 48 (pos 0)) ≡ getD (replicate 48 (pos 0)) n (pos 0) ∷ drop (suc n) (replicate 48 (pos 0)) = drop-cons (replicate 48 (pos 0)) n (pos 0) r in
-      rw (cells-back n (omega arith) l, cell-back n h, e, take-suc (s .seasonal) n (pos 0) z)
-      (set-at (take n (s .seasonal)) _ (drop (suc n) (replicate 48 (pos 0))) (cell n h) n (length-take-le n (s .seasonal) (omega arith))
-      ∙ sym (append-snoc (take n (s .seasonal)) (cell n h) (drop (suc n) (replicate 48 (pos 0)))))
-
-  -- from m on both are 0
-  zeros : length (s .seasonal) ≡ 48 → drop (s .period) (replicate 48 (pos 0)) ≡ drop (s .period) (s .seasonal)
-  zeros l =
-      ext-getD (pos 0) (drop (s .period) (replicate 48 (pos 0))) (drop (s .period) (s .seasonal)) (simp (length-drop, l))
-      (λ i h.
-      let k : s .period + i < 48 = omega (arith, length-drop (s .period) (replicate 48 (pos 0))) in
-      let o = rw (le-ltb (s .period + i) (s .period) (omega arith)) at (cell-ok (s .period + i) k) in
-      rw (getD-drop (s .period) (replicate 48 (pos 0)) i (pos 0), getD-drop (s .period) (s .seasonal) i (pos 0), zero-is (getD (s .seasonal) (s .period + i) (pos 0)) o, getD-replicate 48 (s .period + i) (pos 0) (pos 0) k))
-
+  -- the season cells: those of the places, and 0 from m on
   seasonal-back : length (s .seasonal) ≡ 48 → cellsAt x (s .period) ≡ s .seasonal
-  seasonal-back l = rw (cells-back (s .period) (le-refl (s .period)) l, zeros l) (take-append-drop (s .period) (s .seasonal))
+  seasonal-back l = ext-getD (pos 0) (cellsAt x (s .period)) (s .seasonal) (length-cells x (s .period) ∙ sym l) (λ k h. cell k (rw (length-cells x (s .period)) at h) (ltb k (s .period)) refl)
+    where
+      cell : (k : ℕ) → k < 48 → (t : Bool) → ltb k (s .period) ≡ t → getD (cellsAt x (s .period)) k (pos 0) ≡ getD (s .seasonal) k (pos 0)
+      cell k h true e = let l = ltb-true k (s .period) e in cell-read x (s .period) k (b .period) l ∙ cell-back k l
+      cell k h false e = cell-none x (s .period) k h (ltb-false k (s .period) e) ∙ sym (zero-is (getD (s .seasonal) k (pos 0)) (rw e at (cell-ok k h)))
 
   -- the command 13
   last : drop (positionAt (s .period)) x ≡ positionBytes (s .index) (s .count) ++ t
@@ -180,16 +185,16 @@ module _ (s : State) (t : List ℕ) (p : Passed s) (b : Bounded s) where
 
   index-back : indexIn x (s .period) ≡ s .index
   unfolding positionBytes
-  index-back = index-at x (positionAt (s .period)) 0x13 (s .index) (toBytes 8 (s .count)) t last (positionAt (s .period) + 1) refl
+  index-back = index-at x (positionAt (s .period)) 0x13 (s .index) (toBytes 8 (s .count)) t last
 
   count-back : countIn x (s .period) ≡ s .count
   unfolding positionBytes
   count-back =
       unsigned-back x (positionAt (s .period) + 2) 8 (s .count)
-      (operand-at x (positionAt (s .period)) 0x13 (s .index) (toBytes 8 (s .count)) t last (positionAt (s .period) + 2) 8 refl (length-toBytes 8 (s .count)))
+      (operand-at x (positionAt (s .period)) 0x13 (s .index) (toBytes 8 (s .count)) t last 8 (length-toBytes 8 (s .count)))
       (lt-of-le-of-lt (b .count) (lit< tt))
 
-  position-due : Due x (positionAt (s .period)) 0x13 10
+  position-due : Due x (positionAt (s .period)) 0x13 positionLength
   unfolding positionBytes
   position-due =
       record { byte = byte-at x (positionAt (s .period)) 0x13 (s .index) (toBytes 8 (s .count)) t last; room = omega (arith, size) }
@@ -233,27 +238,6 @@ read-back s t l h =
     let b = bounded s h in
     let a = accepts (accepted-back s t p b) in
     (ap (λ (r : Scanned). r .code) a, ap (λ (r : Scanned). r .offset) a ∙ ap sizeOf (period-back s t p b) ∙ sym (length-encoded s), decoded-back s t p b l)
-
--- ---- the season cells that were read
-pub length-cells : (s : List ℕ) (n : ℕ) → length (cellsAt s n) ≡ 48
-unfolding cellsAt
-length-cells s zero = refl
-length-cells s (suc n) = length-set (cellsAt s n) n (seasonIn s n) ∙ length-cells s n
-
-pub cell-read : (s : List ℕ) (n k : ℕ) → n ≤ 48 → k < n → getD (cellsAt s n) k (pos 0) ≡ seasonIn s k
-unfolding cellsAt
-cell-read s zero k h l = absurd (not-suc-le-zero l)
-cell-read s (suc n) k h l =
-    ⊎-elim
-    (λ (q : k ≡ n). rw q (getD-set-same (cellsAt s n) n (seasonIn s n) (pos 0) (rw (length-cells s n) h)))
-    (λ (lt : k < n). getD-set-other (cellsAt s n) n k (seasonIn s n) (pos 0) (λ q. omega arith) ∙ cell-read s n k (omega arith) lt)
-    (eq-or-lt-of-le (le-of-suc-le-suc l))
-
-pub cell-none : (s : List ℕ) (n k : ℕ) → k < 48 → n ≤ k → getD (cellsAt s n) k (pos 0) ≡ pos 0
-unfolding cellsAt
-cell-none s zero k h l = getD-replicate 48 k (pos 0) (pos 0) h
-cell-none s (suc n) k h l =
-    getD-set-other (cellsAt s n) n k (seasonIn s n) (pos 0) (λ q. omega arith) ∙ cell-none s n k h (omega arith)
 
 -- ---- what was accepted passes the checks
 cell-passes : (s : List ℕ) → Accepted s → (k : ℕ) → k < 48 → cellOk (periodIn s) k (getD (cellsAt s (periodIn s)) k (pos 0)) ≡ true
@@ -382,3 +366,8 @@ saves-read s d b h l =
 -- a slice that holds one snapshot is the snapshot of its state
 pub whole : (d : List ℕ) → AreBytes d → openCode d ≡ 0 → openOffset d ≡ length d → encoded (decoded d) ≡ d
 whole d b ok e = saved-back d b ok ∙ rw e (take-all (length d) d (omega arith))
+
+-- after a rejection there is no state to go on with
+pub rejected-state : RejectedState
+unfolding read
+rejected-state s h = rw (ne-eqb (openCode s) 0 h) no-state

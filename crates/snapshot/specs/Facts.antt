@@ -12,10 +12,10 @@ use Rattle.ets.specs.Steps.{nextIndex}
 use Rattle.ets.specs.Updates.{numbersOf}
 use Rattle.ets.specs.declared.Numbers.{Numbers}
 use Rattle.ets.specs.declared.Update.{Update}
-use Rattle.snapshot.specs.Layout.{levelAt, seasonAt, positionAt, sizeOf, alphaIn, betaIn, gammaIn, phiIn, levelIn, trendIn, seasonIn, countIn, levelBytes, seasonBytes, positionBytes}
+use Rattle.snapshot.specs.Layout.{levelAt, seasonAt, positionAt, sizeOf, periodIn, alphaIn, betaIn, gammaIn, phiIn, levelIn, trendIn, seasonIn, indexIn, countIn, levelBytes, seasonBytes, positionBytes}
 use Rattle.snapshot.specs.Snapshots.{decoded, encoded}
 use Rattle.snapshot.specs.InPlace.{inPlaceCode}
-use Rattle.snapshot.specs.declared.in_place.Checked.{Checked}
+use Rattle.snapshot.specs.declared.fields.Checked.{Checked}
 
 -- the slice reaches to the end of a snapshot of m season values, and index p is one of them (0 without season)
 pub record Room (s : List ℕ) (m p : ℕ) : Type 0 where
@@ -23,9 +23,9 @@ pub record Room (s : List ℕ) (m p : ℕ) : Type 0 where
   pub period : m ≤ 48
   pub index : p ≤ m
 
--- the numbers that a reading moves and is moved by, with the season value of index p
-abbrev pub numbersIn : List ℕ → ℕ → ℕ → Numbers
-numbersIn s m p =
+-- the numbers of a snapshot but its season values, with the one that is due
+abbrev pub numbersIn : List ℕ → Numbers
+numbersIn s =
     record {
       alpha = alphaIn s;
       beta = betaIn s;
@@ -33,9 +33,12 @@ numbersIn s m p =
       phi = phiIn s;
       level = levelIn s;
       trend = trendIn s;
-      season = cond (eqb m 0) (pos 0) (seasonIn s p);
-      count = countIn s m;
+      season = cond (eqb (periodIn s) 0) (pos 0) (seasonIn s (indexIn s (periodIn s)));
+      count = countIn s (periodIn s);
     }
+
+abbrev pub checkedIn : List ℕ → Checked
+checkedIn s = record { code = 0; period = periodIn s; index = indexIn s (periodIn s); numbers = numbersIn s }
 
 -- the season value of a horizon
 abbrev pub aheadIn : List ℕ → ℕ → ℕ → ℕ → ℤ

@@ -53,8 +53,8 @@ abbrev pub trendIn : List ℕ → ℤ
 trendIn s = signedAt s (levelAt + 9)
 
 -- the place byte and the value of the command 12 of index k
-abbrev pub placeIn : List ℕ → ℕ → ℕ
-placeIn s k = getD s (seasonAt k + 1) 0
+abbrev pub seasonIndexIn : List ℕ → ℕ → ℕ
+seasonIndexIn s k = getD s (seasonAt k + 1) 0
 
 abbrev pub seasonIn : List ℕ → ℕ → ℤ
 seasonIn s k = signedAt s (seasonAt k + 2)

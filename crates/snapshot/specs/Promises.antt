@@ -5,7 +5,7 @@ use mathlib.Core.Logic.{_⊎_}
 use mathlib.Core.List.{List, _++_}
 use lib.IntN.{ℤ}
 use lib.ListN.{length, take, drop, getD}
-use Rattle.state.specs.Rejections.{truncated}
+use Rattle.state.specs.Rejections.{truncated, bad-model}
 use Rattle.state.specs.States.{check}
 use Rattle.state.specs.declared.State.{State}
 use Rattle.state.specs.declared.Outcome.the-variants as outcome-of
@@ -34,6 +34,10 @@ pub record SavedBack (s d : List ℕ) : Type 0 where
 
 abbrev pub SavesRead : Type 0
 SavesRead = (s d : List ℕ) → AreBytes s → openCode s ≡ 0 → openOffset s ≤ length d → SavedBack s d
+
+-- the state beside a rejection is one that every check refuses
+abbrev pub RejectedState : Type 0
+RejectedState = (s : List ℕ) → (openCode s ≡ 0 → ⊥) → check (read s .state) ≡ bad-model
 
 -- the offset lies in the stream. Rejection 4 is told with the stream's length where no command is begun, else with the offset of a command that the bytes end inside
 pub record Located (s : List ℕ) : Type 0 where

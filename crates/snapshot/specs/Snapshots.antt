@@ -14,7 +14,7 @@ use Rattle.state.specs.declared.State.{State}
 use Rattle.state.specs.declared.Outcome.{Outcome}
 use Rattle.snapshot.specs.Answers.{accepting, lengthAnswer}
 use Rattle.snapshot.specs.CommandTable.{commandSize, isCommand}
-use Rattle.snapshot.specs.Layout.{modelAt, levelAt, seasonAt, positionAt, sizeOf, modelIn, periodIn, alphaIn, betaIn, gammaIn, phiIn, levelIn, trendIn, placeIn, seasonIn, indexIn, countIn, modelBytes, levelBytes, seasonsBytes, positionBytes}
+use Rattle.snapshot.specs.Layout.{modelAt, levelAt, seasonAt, positionAt, sizeOf, modelIn, periodIn, alphaIn, betaIn, gammaIn, phiIn, levelIn, trendIn, seasonIndexIn, seasonIn, indexIn, countIn, modelBytes, levelBytes, seasonsBytes, positionBytes}
 use Rattle.snapshot.specs.declared.Opened.{Opened}
 use Rattle.snapshot.specs.declared.Length.{Length}
 use Rattle.snapshot.specs.declared.reading.Scanned.{Scanned}
@@ -47,7 +47,7 @@ levelCode s =
 unfoldable pub seasonCode : List ℕ → ℕ → ℕ
 seasonCode s k =
     dueCode s (seasonAt k) 0x12
-    then unless (eqb (placeIn s k) k) wrong-index
+    then unless (eqb (seasonIndexIn s k) k) wrong-index
     then unless (inRange (seasonIn s k)) bad-value
 
 -- 13, after m places

@@ -14,15 +14,23 @@ use super::layout::season_at;
 use ets::Numbers;
 use state::State;
 ghost use mathlib.Core.Path.{_≡_};
-ghost use mathlib.Core.Bool.{cond, _||_};
+ghost use mathlib.Core.Bool.{cond};
 ghost use Prim.Native.Nat.{_+_, _-_, _%_, _≤_, _<_};
 ghost use lib.Dec.{eqb};
 ghost use lib.IntN.{pos};
 ghost use lib.ListN.{length, replicate};
 ghost use Rattle.snapshot.specs.CommandTable.{seasonLength};
-ghost use Rattle.snapshot.specs.Layout.{seasonAt, sizeOf, periodIn, seasonIn, indexIn};
+ghost use Rattle.snapshot.specs.Layout.{seasonAt, periodIn, seasonIn, indexIn};
 ghost use Rattle.snapshot.specs.Snapshots.{cellsAt, decoded};
-ghost use Rattle.snapshot.specs.Facts.{Room, numbersIn, aheadIn};
+ghost use Rattle.snapshot.specs.Facts.{Room, checkedIn, aheadIn};
+
+// What a call goes by: the slice's rejection or 0, and then the numbers of its snapshot, the season value being the one due.
+pub struct Checked {
+    pub code: u8,
+    pub period: u8,
+    pub index: u8,
+    pub numbers: Numbers,
+}
 
 // The season value of index k.
 fn season_value(s: &[u8], k: usize) -> i64
@@ -55,29 +63,28 @@ pub fn season_ahead(s: &[u8], m: u8, p: u8, h: u32) -> i64
     season_value(s, ahead % (m as usize))
 }
 
-// The seasonal index.
-pub fn index_at(s: &[u8], m: u8) -> u8
-    requires { ⌜ (m ≤ 48) × (sizeOf m ≤ length (now s)) ⌝ }
-    ensures { λ r. ⌜ r ≡ indexIn (now (s .entry)) m ⌝ }
+// The numbers of an accepted snapshot.
+pub fn checked_at(s: &[u8]) -> Checked
+    requires { ⌜ Room (now s) (periodIn (now s)) (indexIn (now s) (periodIn (now s))) ⌝ }
+    ensures { λ r. ⌜ r ≡ checkedIn (now (s .entry)) ⌝ }
 {
-    let at = season_at(m as usize);
-    s[at + 1]
-}
-
-// The numbers that a reading moves and is moved by.
-pub fn numbers_at(s: &[u8], m: u8, p: u8) -> Numbers
-    requires { ⌜ Room (now s) m p ⌝ }
-    ensures { λ r. ⌜ r ≡ numbersIn (now (s .entry)) m p ⌝ }
-{
-    Numbers {
-        alpha: read_u32(s, ALPHA_AT),
-        beta: read_u32(s, BETA_AT),
-        gamma: read_u32(s, GAMMA_AT),
-        phi: read_u32(s, PHI_AT),
-        level: read_i64(s, LEVEL_VALUE_AT),
-        trend: read_i64(s, TREND_VALUE_AT),
-        season: season_due(s, m, p),
-        count: read_le(s, season_at(m as usize) + 2, 8),
+    let period = s[PERIOD_AT];
+    let at = season_at(period as usize);
+    let index = s[at + 1];
+    Checked {
+        code: 0,
+        period,
+        index,
+        numbers: Numbers {
+            alpha: read_u32(s, ALPHA_AT),
+            beta: read_u32(s, BETA_AT),
+            gamma: read_u32(s, GAMMA_AT),
+            phi: read_u32(s, PHI_AT),
+            level: read_i64(s, LEVEL_VALUE_AT),
+            trend: read_i64(s, TREND_VALUE_AT),
+            season: season_due(s, period, index),
+            count: read_le(s, at + 2, 8),
+        },
     }
 }
 
@@ -98,12 +105,11 @@ pub fn state_at(s: &[u8]) -> State
     requires { ⌜ Room (now s) (periodIn (now s)) (indexIn (now s) (periodIn (now s))) ⌝ }
     ensures { λ r. ⌜ r ≡ decoded (now (s .entry)) ⌝ }
 {
-    let m = s[PERIOD_AT];
-    let p = index_at(s, m);
-    let n = numbers_at(s, m, p);
+    let x = checked_at(s);
+    let n = x.numbers;
     let mut state = State {
         model: s[MODEL_BYTE_AT],
-        period: m,
+        period: x.period,
         alpha: n.alpha,
         beta: n.beta,
         gamma: n.gamma,
@@ -111,9 +117,9 @@ pub fn state_at(s: &[u8]) -> State
         level: n.level,
         trend: n.trend,
         seasonal: [0; 48],
-        index: p,
+        index: x.index,
         count: n.count,
     };
-    read_cells(s, m as usize, &mut state.seasonal);
+    read_cells(s, x.period as usize, &mut state.seasonal);
     state
 }

@@ -1,11 +1,9 @@
 // The calls on a lent slice that holds one snapshot: document 01, "Commands".
 // Each returns the rejection's number or 0; a rejected call leaves the slice and the lent number as found.
 // The snapshot is checked once. A step reads the numbers that it needs and writes those that it moves: no state is copied.
-use super::fields::index_at;
-use super::fields::numbers_at;
+use super::fields::Checked;
+use super::fields::checked_at;
 use super::fields::season_ahead;
-use super::layout::PERIOD_AT;
-use super::reading::Scanned;
 use super::reading::scan;
 use super::saving::write_level;
 use super::saving::write_position;
@@ -21,33 +19,9 @@ use state::MAX_COUNT;
 use state::OUT_OF_PLACE;
 ghost use mathlib.Core.Path.{_≡_};
 ghost use Prim.Native.Nat.{_+_, _<_};
-ghost use lib.Dec.{eqb};
-ghost use Rattle.state.specs.Rejections.{unless, _then_, out-of-place};
 ghost use Rattle.state.specs.Fixed.{maxCount};
 ghost use Rattle.snapshot.specs.InPlace.{inPlaceStepCode, inPlaceStepBytes, inPlaceResidual, inPlaceMissingCode, inPlaceMissingBytes, inPlaceForecastCode, inPlaceForecast};
 ghost use Rattle.snapshot.specs.Facts.{Room, Found, movedOn, seasonPut, stored};
-
-// What a call goes by: the slice's rejection or 0, and then the numbers of its snapshot, the season value being the one due.
-pub struct Checked {
-    pub code: u8,
-    pub period: u8,
-    pub index: u8,
-    pub numbers: Numbers,
-}
-
-// The snapshot's own rejection; then 3 for any byte after it.
-fn code_of(found: Scanned, length: usize) -> u8
-    ensures { λ r. ⌜ r ≡ (found .code then unless (eqb (found .offset) length) out-of-place) ⌝ }
-{
-    if found.code != 0 {
-        return found.code;
-    }
-    if found.offset == length {
-        0
-    } else {
-        OUT_OF_PLACE
-    }
-}
 
 fn unopened(code: u8) -> Checked
     ensures { λ r. ⌜ r .code ≡ code ⌝ }
@@ -69,22 +43,19 @@ fn unopened(code: u8) -> Checked
     }
 }
 
+// The slice holds one snapshot: its own rejection, then 3 for any byte after it.
 fn opened(snapshot: &[u8]) -> Checked
     ensures { λ r. ⌜ Found (now (snapshot .entry)) r ⌝ }
 {
-    let code = code_of(scan(snapshot), snapshot.len());
+    let found = scan(snapshot);
+    let code = found.code;
     if code != 0 {
         return unopened(code);
     }
-    let period = snapshot[PERIOD_AT];
-    let index = index_at(snapshot, period);
-    let numbers = numbers_at(snapshot, period, index);
-    Checked {
-        code: 0,
-        period,
-        index,
-        numbers,
+    if found.offset != snapshot.len() {
+        return unopened(OUT_OF_PLACE);
     }
+    checked_at(snapshot)
 }
 
 // The seasonal index moves on and the count rises.

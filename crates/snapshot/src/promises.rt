@@ -1,5 +1,5 @@
 // What holds of the calls together: each function's promise is the theorem that its contract names.
-ghost use Rattle.snapshot.specs.Promises.{ReadsSaved, SavesRead, Offsets, InPlaceIsDirect, Lengths};
+ghost use Rattle.snapshot.specs.Promises.{ReadsSaved, SavesRead, RejectedState, Offsets, InPlaceIsDirect, Lengths};
 
 // Reading what was saved gives the state, for every state that passes and every buffer with room.
 pub fn reads_saved()
@@ -9,6 +9,11 @@ pub fn reads_saved()
 // Saving what was read writes the same bytes, into every buffer with room.
 pub fn saves_read()
     ensures { λ _. ⌜ SavesRead ⌝ }
+{}
+
+// No caller goes on unnoticed with the state beside a rejection.
+pub fn rejected_state()
+    ensures { λ _. ⌜ RejectedState ⌝ }
 {}
 
 // Where a rejection is told to stand.

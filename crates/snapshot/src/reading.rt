@@ -14,7 +14,7 @@ use super::layout::PHI_AT;
 use super::layout::TREND_VALUE_AT;
 use super::layout::season_at;
 use super::table::POSITION_LENGTH;
-use super::table::command_size;
+use super::table::entry_of;
 use super::table::is_command;
 use state::BAD_MODEL;
 use state::BAD_PARAMETER;
@@ -35,14 +35,13 @@ use state::models::model_ok;
 ghost use mathlib.Core.Path.{_≡_};
 ghost use mathlib.Core.Bool.{true, _&&_};
 ghost use Prim.Native.Nat.{_+_, _≤_, _<_};
-ghost use lib.Dec.{eqb};
 ghost use lib.ListN.{length};
-ghost use Rattle.state.specs.Rejections.{unless, _then_, unknown-command, out-of-place, bad-model, bad-period, bad-parameter, wrong-index, bad-value};
+ghost use Rattle.state.specs.Rejections.{unless, _then_, bad-model, bad-period, bad-parameter};
 ghost use Rattle.state.specs.Fixed.{inRange};
 ghost use Rattle.state.specs.Models.{parametersOk};
-ghost use Rattle.state.specs.States.{trendOk, indexOk, countOk};
+ghost use Rattle.state.specs.States.{trendOk};
 ghost use Rattle.snapshot.specs.CommandTable.{isCommand, modelLength, levelLength};
-ghost use Rattle.snapshot.specs.Layout.{levelAt, seasonAt, sizeOf, modelIn, alphaIn, betaIn, gammaIn, phiIn, levelIn, trendIn, placeIn, seasonIn, indexIn, countIn};
+ghost use Rattle.snapshot.specs.Layout.{levelAt, seasonAt, modelIn, alphaIn, betaIn, gammaIn, phiIn, levelIn, trendIn};
 ghost use Rattle.snapshot.specs.Snapshots.{dueCode, modelCode, levelCode, seasonCode, positionCode, scanPosition, scanSeasons, scan};
 
 // What the checks of a stream found: the rejection and the offset of its command, or 0 and the offset of what follows.
@@ -58,17 +57,6 @@ fn unless(holds: bool, code: u8) -> u8
     if holds { 0 } else { code }
 }
 
-// The rejection of a command that is not the one due.
-fn stray(b: u8) -> u8
-    ensures { λ r. ⌜ r ≡ (unless (isCommand b) unknown-command then out-of-place) ⌝ }
-{
-    if is_command(b) {
-        OUT_OF_PLACE
-    } else {
-        UNKNOWN_COMMAND
-    }
-}
-
 // The rejection of the command that is due at an offset, before its operands are looked at, or 0.
 fn due(s: &[u8], at: usize, first: u8) -> u8
     requires { ⌜ isCommand first ≡ true ⌝ }
@@ -80,9 +68,13 @@ fn due(s: &[u8], at: usize, first: u8) -> u8
     let b = s[at];
     let left = s.len() - at;
     if b != first {
-        return stray(b);
+        if is_command(b) {
+            return OUT_OF_PLACE;
+        }
+        return UNKNOWN_COMMAND;
     }
-    unless(command_size(first) <= left, TRUNCATED)
+    let e = entry_of(first);
+    unless(e.0 <= left, TRUNCATED)
 }
 
 // The first of three checks that fails, or 0.

@@ -20,7 +20,7 @@ ghost use mathlib.Core.Path.{_≡_};
 ghost use Prim.Native.Nat.{_+_, _≤_, _<_};
 ghost use lib.ListN.{length};
 ghost use lib.Seq.{sets};
-ghost use Rattle.snapshot.specs.CommandTable.{modelLength, levelLength, seasonLength, positionLength};
+ghost use Rattle.snapshot.specs.CommandTable.{modelLength, levelLength, seasonLength};
 ghost use Rattle.snapshot.specs.Layout.{modelAt, levelAt, seasonAt, sizeOf, modelByte, parameterBytes, modelBytes, levelBytes, seasonBytes, seasonsBytes, positionBytes};
 ghost use Rattle.snapshot.specs.Snapshots.{encoded};
 

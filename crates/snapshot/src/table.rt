@@ -12,10 +12,11 @@ pub const SEASON_LENGTH: usize = 10;
 
 pub const POSITION_LENGTH: usize = 10;
 
+// The length, and whether only a snapshot holds it.
 pub struct Entry(pub usize, pub bool);
 
 // The table's row of a byte; a length of 0 where it begins no command.
-fn entry_of(b: u8) -> Entry
+pub fn entry_of(b: u8) -> Entry
     ensures size { λ r. ⌜ r .0 ≡ commandSize b ⌝ }
     ensures inner { λ r. ⌜ r .1 ≡ onlyInSnapshot b ⌝ }
 {
@@ -33,17 +34,11 @@ fn entry_of(b: u8) -> Entry
     }
 }
 
-pub fn command_size(b: u8) -> usize
-    ensures { λ r. ⌜ r ≡ commandSize b ⌝ }
-{
-    let e = entry_of(b);
-    e.0
-}
-
 pub fn is_command(b: u8) -> bool
     ensures { λ r. ⌜ r ≡ isCommand b ⌝ }
 {
-    command_size(b) != 0
+    let e = entry_of(b);
+    e.0 != 0
 }
 
 pub fn only_in_snapshot(b: u8) -> bool
@@ -57,7 +52,8 @@ pub fn only_in_snapshot(b: u8) -> bool
 pub fn command_length(b: u8) -> Length
     ensures { λ r. ⌜ r ≡ commandLength b ⌝ }
 {
-    let n = command_size(b);
+    let e = entry_of(b);
+    let n = e.0;
     if n == 0 {
         return Length::Rejected(UNKNOWN_COMMAND);
     }

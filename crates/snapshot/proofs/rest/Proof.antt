@@ -1,5 +1,5 @@
 -- `snapshot::rest` meets its contract.
-use mathlib.Core.Path.{ap, _∙_}
+use mathlib.Core.Path.{ap}
 use native.Mathlib.Omega.{arith}
 use Rattle.snapshot.specs.Snapshots.{restOf}
 use Rattle.snapshot.specs.declared.reading.Scanned.{Scanned}

@@ -1,5 +1,5 @@
 -- `snapshot::save` meets its contract: the state is checked, then the room.
-use mathlib.Core.Path.{sym, _∙_}
+use mathlib.Core.Path.{refl, sym, _∙_}
 use native.Mathlib.Omega.{arith}
 use lib.ListN.{length}
 use borrow.Author.Tests.{eq-eqb, ne-eqb, le-leb, lt-leb}
@@ -17,7 +17,7 @@ returns : tie.Need-returns
 unfolding save saveCode savedBytes
 returns c =
     let n = ne-eqb _ _ (c .if1 .taken) in
-    (rw (← (c .before .check .ensures), n, n), rw (← (c .before .check .ensures), n, n))
+    rw (← (c .before .check .ensures), n, n) (refl, refl)
 
 cast-size-of : tie.Need-cast-size-of
 cast-size-of c = search needs
@@ -33,7 +33,7 @@ returns-2 c =
     let e = k .before .check .ensures in
     let n = eq-eqb _ _ (k .if1 .left) in
     let l = lt-leb (sizeOf (a .s .period)) (length (a .buffer .now)) (omega (arith, c .before .size-of .ensures)) in
-    (rw (← e, n, l), rw (← e, n, l))
+    rw (← e, n, l) (refl, refl)
 
 write-snapshot-requires : tie.Need-write-snapshot-requires
 write-snapshot-requires c κs =
@@ -52,7 +52,7 @@ returns-3 c =
     let e = k .before .check .ensures in
     let n = eq-eqb _ _ (k .if1 .left) in
     let l = le-leb (sizeOf (a .s .period)) (length (a .buffer .now)) (omega (arith, w .before .before .before .size-of .ensures)) in
-    (rw (← e, n, l), rw (← e, n, l) (w .write-snapshot .ensures))
+    rw (← e, n, l) (refl, w .write-snapshot .ensures)
 
 pub save-spec : {M : Type 1} → statement M
 save-spec =

@@ -5,10 +5,6 @@ use mir.Val.{toZ}
 use mir.ValLaws.{toZ-ofZ}
 use Rattle.snapshot.proofs.bytes.read_i64.Statement.{statement}
 use Rattle.snapshot.proofs.bytes.read_i64.Tie as tie
-use Rattle.snapshot.proofs.bytes.read_i64.Reads as reads
-use Rattle.snapshot.proofs.bytes.read_i64.Lts as lts
-use Rattle.snapshot.proofs.bytes.read_le.Reads as read-le-reads
-use Rattle.snapshot.proofs.bytes.to_i64.Reads as to-i64-reads
 
 read-le-requires : tie.Need-read-le-requires
 read-le-requires c κs = search needs

@@ -9,10 +9,6 @@ use mir.ValLaws.{toZ-ofZ}
 use Rattle.snapshot.specs.Bytes.{toBytes}
 use Rattle.snapshot.proofs.bytes.write_i64.Statement.{statement}
 use Rattle.snapshot.proofs.bytes.write_i64.Tie as tie
-use Rattle.snapshot.proofs.bytes.write_i64.Reads as reads
-use Rattle.snapshot.proofs.bytes.write_i64.Lts as lts
-use Rattle.snapshot.proofs.bytes.of_i64.Reads as of-i64-reads
-use Rattle.snapshot.proofs.bytes.write_le.Reads as write-le-reads
 
 of-i64-requires : tie.Need-of-i64-requires
 of-i64-requires c κs = search needs

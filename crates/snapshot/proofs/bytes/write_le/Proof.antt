@@ -10,8 +10,6 @@ use Rattle.snapshot.specs.Bytes.{toBytes}
 use Rattle.snapshot.proofs.ByteLaws.{toBytes-more}
 use Rattle.snapshot.proofs.bytes.write_le.Statement.{statement}
 use Rattle.snapshot.proofs.bytes.write_le.Tie as tie
-use Rattle.snapshot.proofs.bytes.write_le.Reads as reads
-use Rattle.snapshot.proofs.bytes.write_le.Lts as lts
 
 abbrev Inv-loop : tie.InvT-loop
 Inv-loop d₀ at k x v₀ i₀ d v i = (length d ≡ length d₀) × ((i ≤ k) × (sets d (at + i) (toBytes (k - i) v) ≡ sets d₀ at (toBytes k x)))

@@ -1,4 +1,7 @@
 -- `snapshot::fields::state_at` meets its contract, number for number.
+use mathlib.Core.Path.{refl, ap}
+use native.Mathlib.Omega.{arith}
+use Rattle.snapshot.specs.declared.fields.Checked.{Checked}
 use mir.Syntax.{w64}
 use Rattle.integers.proofs.Difference.{back}
 use Rattle.snapshot.specs.Snapshots.{decoded}
@@ -6,39 +9,30 @@ use borrow.Author.Needs.{needs}
 use Rattle.snapshot.proofs.fields.state_at.Statement.{statement}
 use Rattle.snapshot.proofs.fields.state_at.Tie as tie
 
-shared-slice-read-m : tie.Need-shared-slice-read-m
-shared-slice-read-m c = search needs
+checked-at-requires : tie.Need-checked-at-requires
+checked-at-requires c κs = search needs
 
-index-at-requires : tie.Need-index-at-requires
-index-at-requires c κs = search needs
-
-numbers-at-requires : tie.Need-numbers-at-requires
-numbers-at-requires c κs = search needs
-
-shared-slice-read-t7 : tie.Need-shared-slice-read-t7
-shared-slice-read-t7 c = search needs
+shared-slice-read-t6 : tie.Need-shared-slice-read-t6
+shared-slice-read-t6 c = search needs
 
 cast-read-cells : tie.Need-cast-read-cells
 cast-read-cells c = search needs
 
 read-cells-requires : tie.Need-read-cells-requires
-read-cells-requires c κs = search needs
+read-cells-requires c κs =
+    let x = c .before .before .before .before .before in
+    let e = ap (λ (x : Checked). x .period) (x .checked-at .ensures) in
+    let r = x .before .before .pre in
+    (omega (arith, r .period), omega (arith, r .size), refl)
 
 returns : tie.Need-returns
 unfolding decoded
 returns c =
-    let n = c .before .before .before .before in
-    let t = c .before .before .struct-told .given in
-    rw (back w64 (n .numbers-at .result .level) (t .1 .1 .1 .1 .0 .1), back w64 (n .numbers-at .result .trend) (t .1 .1 .1 .1 .1 .0 .1), c .read-cells .ensures, n .numbers-at .ensures, n .before .index-at .ensures)
+    let x = c .before .before .before .before .before .before .checked-at in
+    let t = c .before .before .before .struct-told .given in
+    rw (back w64 (x .result .numbers .level) (t .1 .1 .1 .1 .0 .1), back w64 (x .result .numbers .trend) (t .1 .1 .1 .1 .1 .0 .1), c .read-cells .ensures, x .ensures)
 
 pub state-at-spec : {M : Type 1} → statement M
 state-at-spec =
     tie.close
-    (tie.spec
-    shared-slice-read-m
-    index-at-requires
-    numbers-at-requires
-    shared-slice-read-t7
-    cast-read-cells
-    read-cells-requires
-    returns)
+    (tie.spec checked-at-requires shared-slice-read-t6 cast-read-cells read-cells-requires returns)

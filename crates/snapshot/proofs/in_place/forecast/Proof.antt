@@ -1,46 +1,41 @@
--- `snapshot::in_place::forecast` meets its contract.
+-- `snapshot::in_place::forecast` meets its contract: the forecast is made of the numbers of the state which the slice holds.
 use Prim.Native.Nat.{ℕ}
 use mathlib.Core.Path.{_≡_, sym, ap, ap₂, _∙_}
 use mathlib.Core.List.{List}
-use lib.IntN.{ℤ}
-use Rattle.snapshot.specs.Snapshots.{openCode, decoded}
-use Rattle.snapshot.specs.InPlace.{inPlaceCode}
-use Rattle.snapshot.specs.Facts.{aheadIn, Held}
-use Rattle.state.specs.declared.State.{State}
-use lib.IntN.{_+ℤ_}
+use lib.IntN.{ℤ, _+ℤ_}
 use mir.Syntax.{w64}
 use mir.ValLaws.{toZ-ofZ}
 use Rattle.integers.proofs.Difference.{back}
-use Rattle.ets.specs.declared.Numbers.{Numbers}
-use Rattle.ets.specs.Forecasts.{trendLine, forecastCode, forecastFromCode, forecastFrom, forecastOf}
-use Rattle.ets.proofs.ForecastLaws.{from-code, forecast-ready}
+use Rattle.state.specs.declared.State.{State}
 use Rattle.state.proofs.Answers.{answer-rejected, answer-accepted}
+use Rattle.ets.specs.Forecasts.{trendLine, forecastCode, forecastFromCode, forecastFrom, forecastOf}
+use Rattle.ets.specs.declared.Numbers.{Numbers}
+use Rattle.ets.proofs.ForecastLaws.{from-code, forecast-ready}
+use Rattle.snapshot.specs.Snapshots.{openCode, decoded}
 use Rattle.snapshot.specs.InPlace.{inPlaceForecastCode, inPlaceForecast}
-use Rattle.snapshot.proofs.InPlaceSteps.{one-snapshot, room-is, aheadValue, ahead-within, ahead-is, before, past, number-rejected, number-accepted}
+use Rattle.snapshot.specs.Facts.{aheadIn, Held}
+use Rattle.snapshot.proofs.InPlaceSteps.{one-snapshot, room-is, aheadValue, ahead-within, ahead-is, holds, unopened, opened, rejected, accepted-call}
 use borrow.Author.Needs.{needs}
 use Rattle.snapshot.proofs.in_place.forecast.Statement.{statement}
 use Rattle.snapshot.proofs.in_place.forecast.Tie as tie
 
--- the slice at entry
-abbrev sl : tie.After-opened → List ℕ
-sl c = c .before .before .args .snapshot .now
+-- the slice, the horizon, and the call on a state
+module _ (c : tie.After-opened) where
+  abbrev d : List ℕ
+  d = c .before .before .args .snapshot .now
 
-passed : (c : tie.Else1) → inPlaceCode (sl (c .before)) ≡ 0
-passed c = sym (c .before .opened .ensures .code) ∙ c .if1 .left
+  abbrev h : ℕ
+  h = c .before .before .args .horizon
 
-held : (c : tie.Else1) → Held (sl (c .before)) (c .before .opened .result)
-held c = c .before .opened .ensures .held (passed c)
+  abbrev code : State → ℕ
+  code s = forecastCode s h
 
-abbrev hz : tie.After-opened → ℕ
-hz c = c .before .before .args .horizon
+  abbrev value : State → ℤ
+  value s = forecastOf s h
 
-abbrev code : ℕ → State → ℕ
-code h s = forecastCode s h
+held : (c : tie.Else1) → Held (d (c .before)) (c .before .opened .result)
+held c = holds (d (c .before)) _ (c .before .opened .ensures) (c .if1 .left)
 
-abbrev value : ℕ → State → ℤ
-value h s = forecastOf s h
-
--- the forecast is made of the numbers of its state
 module _ (c : tie.After-forecast-from) where
   abbrev a : tie.After-season-ahead
   a = c .before .before .before
@@ -48,37 +43,41 @@ module _ (c : tie.After-forecast-from) where
   abbrev q : tie.Else1
   q = a .before .before
 
-  abbrev d : List ℕ
-  d = sl (q .before)
+  abbrev o : tie.After-opened
+  o = q .before
 
-  abbrev h : ℕ
-  h = hz (q .before)
+  abbrev s : State
+  s = decoded (d o)
 
-  opens : openCode d ≡ 0
-  opens = one-snapshot d (passed q) .0
+  opens : openCode (d o) ≡ 0
+  opens = one-snapshot (d o) (sym (o .opened .ensures .code) ∙ q .if1 .left) .0
 
   abbrev v : ℤ
-  v = aheadValue d opens h
+  v = aheadValue (d o) opens (h o)
 
-  forecasted : c .forecast-from .result ≡ forecastFrom (decoded d .level) (decoded d .phi) (decoded d .trend) v h
+  forecasted : c .forecast-from .result ≡ forecastFrom (s .level) (s .phi) (s .trend) v (h o)
   forecasted =
-      let n = q .before .opened .result .numbers in
+      let n = o .opened .result .numbers in
       let e = held q .numbers in
       let t = c .before .struct-told2 .given in
       let l = back w64 (n .level) (t .1 .1 .1 .1 .0 .1) ∙ ap (λ (n : Numbers). n .level) e in
       let b = back w64 (n .trend) (t .1 .1 .1 .1 .1 .0 .1) ∙ ap (λ (n : Numbers). n .trend) e in
-      let w = back w64 (a .season-ahead .result) (a .season-ahead .ok) ∙ a .season-ahead .ensures ∙ ap₂ (λ (m p : ℕ). aheadIn d m p h) (held q .period) (held q .index) in
-      c .forecast-from .ensures ∙ same _ _ _ _ _ _ _ _ h l (ap (λ (n : Numbers). n .phi) e) b w
+      let w = back w64 (a .season-ahead .result) (a .season-ahead .ok) ∙ a .season-ahead .ensures ∙ ap₂ (λ (m p : ℕ). aheadIn (d o) m p (h o)) (held q .period) (held q .index) in
+      c .forecast-from .ensures ∙ same _ _ _ _ _ _ _ _ (h o) l (ap (λ (n : Numbers). n .phi) e) b w
     where
       same : (l l′ : ℤ) (F F′ : ℕ) (b b′ s s′ : ℤ) (h : ℕ) → l ≡ l′ → F ≡ F′ → b ≡ b′ → s ≡ s′ → forecastFrom l F b s h ≡ forecastFrom l′ F′ b′ s′ h
       same l l′ F F′ b b′ s s′ h el ef eb es = rw (el, ef, eb, es)
 
-  code-past : forecastFromCode (decoded d .level) (decoded d .phi) (decoded d .trend) v h ≡ forecastCode (decoded d) h
-  code-past = from-code (decoded d) (held q .passes) v (ahead-within d opens h) h
+  code-is : forecastFromCode (s .level) (s .phi) (s .trend) v (h o) ≡ forecastCode s (h o)
+  code-is = from-code s (held q .passes) v (ahead-within (d o) opens (h o)) (h o)
 
-  value-is : forecastCode (decoded d) h ≡ 0 → trendLine (decoded d .level) (decoded d .phi) (decoded d .trend) h +ℤ v ≡ forecastOf (decoded d) h
+  value-is : forecastCode s (h o) ≡ 0 → trendLine (s .level) (s .phi) (s .trend) (h o) +ℤ v ≡ forecastOf s (h o)
   unfolding forecastOf
-  value-is e = rw (ahead-is d opens h (forecast-ready (decoded d) h e .1))
+  value-is e = rw (ahead-is (d o) opens (h o) (forecast-ready s (h o) e .1))
+
+  told : (n : ℕ) → forecastFromCode (s .level) (s .phi) (s .trend) v (h o) ≡ n → n ≡ inPlaceForecastCode (d o) (h o)
+  unfolding inPlaceForecastCode
+  told n z = opened (d o) _ (o .opened .ensures) (code o) (q .if1 .left) n (sym z ∙ code-is)
 
 opened-requires : tie.Need-opened-requires
 opened-requires c κs = search needs
@@ -87,12 +86,11 @@ returns : tie.Need-returns
 unfolding inPlaceForecastCode inPlaceForecast
 returns c =
     let o = c .before in
-    let n = o .opened .ensures .code in
-    let e = before (code (hz o)) (sl o) (λ z. c .if1 .taken (n ∙ z)) ∙ sym n in
-    (sym e, number-rejected (code (hz o)) (sl o) (value (hz o)) _ _ e (c .if1 .taken))
+    let e = unopened (d o) _ (o .opened .ensures) (code o) (c .if1 .taken) in
+    (e, rejected (code o) (λ s. s) (value o) (d o) _ _ e (c .if1 .taken) .1)
 
 season-ahead-requires : tie.Need-season-ahead-requires
-season-ahead-requires c κs = room-is (sl (c .before .before)) _ (held (c .before))
+season-ahead-requires c κs = room-is (d (c .before .before)) _ (held (c .before))
 
 forecast-from-requires : tie.Need-forecast-from-requires
 forecast-from-requires c κs = search needs
@@ -108,17 +106,16 @@ unfolding inPlaceForecastCode inPlaceForecast forecastFrom
 returns-2 c =
     let f = c .before .before .before in
     let r = answer-rejected _ _ (c .before .k .given .0 .0) (sym (forecasted f) ∙ c .before .k .given .1) in
-    let e = past (code (h f)) (d f) (passed (q f)) ∙ sym (code-past f) ∙ r .0 in
-    (sym e, number-rejected (code (h f)) (d f) (value (h f)) _ _ e (λ n. r .1 (r .0 ∙ n)))
+    let e = told f _ (r .0) in
+    (e, rejected (code (o f)) (λ s. s) (value (o f)) (d (o f)) _ _ e (λ n. r .1 (r .0 ∙ n)) .1)
 
 returns-3 : tie.Need-returns-3
 unfolding inPlaceForecastCode inPlaceForecast forecastFrom
 returns-3 c =
     let f = c .before .before .before in
     let r = answer-accepted _ _ (c .before .v .given .0 .0) (sym (forecasted f) ∙ c .before .v .given .1) in
-    let k = sym (code-past f) ∙ r .0 in
-    let e = past (code (h f)) (d f) (passed (q f)) ∙ k in
-    (sym e, toZ-ofZ w64 (c .before .v .given .0 .0) (search needs) ∙ sym (r .1) ∙ value-is f k ∙ sym (number-accepted (code (h f)) (d f) (value (h f)) _ e))
+    let e = told f 0 (r .0) in
+    (e, toZ-ofZ w64 (c .before .v .given .0 .0) (search needs) ∙ sym (r .1) ∙ value-is f (sym (code-is f) ∙ r .0) ∙ accepted-call (code (o f)) (λ s. s) (value (o f)) (d (o f)) _ e .1)
 
 pub forecast-spec : {M : Type 1} → statement M
 forecast-spec =

@@ -1,4 +1,11 @@
 -- `snapshot::in_place::store` meets its contract: stores one after the other.
+use Prim.Native.Nat.{ℕ}
+use mathlib.Core.Path.{ap, ap₂, _∙_}
+use mathlib.Core.List.{List}
+use lib.IntN.{ℤ}
+use lib.Seq.{sets}
+use Rattle.snapshot.specs.Layout.{levelAt, levelBytes}
+use Rattle.snapshot.specs.Facts.{movedOn, seasonPut}
 use mir.Syntax.{w64}
 use Rattle.integers.proofs.Difference.{back}
 use borrow.Author.Needs.{needs}
@@ -22,9 +29,12 @@ returns c =
     let m = c .before .before in
     let p = m .before .before .before .before in
     let l = p .before .before .before .before .before in
-    let u = l .before .before .before .before .before .args .u in
+    let a = l .before .before .before .before .before .args in
+    let u = a .u in
     let t = p .before .struct-told3 .given in
-    rw (p .put-season .ensures, l .write-level .ensures, back w64 (u .level) (t .1 .0 .1), back w64 (u .trend) (t .1 .1 .0 .1), back w64 (u .season) (t .1 .1 .1 .0 .1)) at (m .move-on .ensures)
+    let e = l .write-level .ensures ∙ ap₂ (λ (x y : ℤ). sets (a .d .now) levelAt (levelBytes x y)) (back w64 (u .level) (t .1 .0 .1)) (back w64 (u .trend) (t .1 .1 .0 .1)) in
+    let f = p .put-season .ensures ∙ ap₂ (λ (x : List ℕ) (v : ℤ). seasonPut x (a .m) (a .p) v) e (back w64 (u .season) (t .1 .1 .1 .0 .1)) in
+    m .move-on .ensures ∙ ap (λ (x : List ℕ). movedOn x (a .m) (a .p) (a .count)) f
 
 pub store-spec : {M : Type 1} → statement M
 store-spec =

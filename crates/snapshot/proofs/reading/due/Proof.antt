@@ -16,24 +16,32 @@ shared-slice-read-b c = search needs
 sub-left : tie.Need-sub-left
 sub-left c = search needs
 
-stray-requires : tie.Need-stray-requires
-stray-requires c κs = search needs
+is-command-requires : tie.Need-is-command-requires
+is-command-requires c κs = search needs
 
 returns-2 : tie.Need-returns-2
 unfolding dueCode
-returns-2 c = rw (lt-ltb _ _ (c .before .before .before .if1 .left), ne-eqb _ _ (c .before .if2 .taken)) (c .stray .ensures)
-
-command-size-requires : tie.Need-command-size-requires
-command-size-requires c κs = search needs
-
-unless-requires : tie.Need-unless-requires
-unless-requires c κs = search needs
+returns-2 c =
+    let b = c .before .before in
+    rw (lt-ltb _ _ (b .before .before .if1 .left), ← (c .before .is-command .ensures), c .if3 .taken, ne-eqb _ _ (b .if2 .taken))
 
 returns-3 : tie.Need-returns-3
 unfolding dueCode
 returns-3 c =
-    let f = c .before .before in
-    rw (lt-ltb _ _ (f .before .before .if1 .left), f .if2 .left, f .before .before .before .before .pre, eq-eqb _ _ refl, ← (c .before .command-size .ensures)) (c .unless .ensures)
+    let b = c .before .before in
+    rw (lt-ltb _ _ (b .before .before .if1 .left), ← (c .before .is-command .ensures), c .if3 .left)
+
+entry-of-requires : tie.Need-entry-of-requires
+entry-of-requires c κs = search needs
+
+unless-requires : tie.Need-unless-requires
+unless-requires c κs = search needs
+
+returns-4 : tie.Need-returns-4
+unfolding dueCode
+returns-4 c =
+    let b = c .before .before .before in
+    rw (lt-ltb _ _ (b .before .before .if1 .left), b .if2 .left, b .before .before .before .before .pre, eq-eqb _ _ refl, ← (c .before .before .entry-of .ensures .0)) (c .unless .ensures)
 
 pub due-spec : {M : Type 1} → statement M
 due-spec =
@@ -42,8 +50,9 @@ due-spec =
     returns
     shared-slice-read-b
     sub-left
-    stray-requires
+    is-command-requires
     returns-2
-    command-size-requires
+    returns-3
+    entry-of-requires
     unless-requires
-    returns-3)
+    returns-4)

@@ -1,20 +1,20 @@
 -- `snapshot::table::command_length` meets its contract.
-use borrow.Author.Tests.{eq-eqb, ne-eqb}
+use borrow.Author.Tests.{ne-eqb}
 use Rattle.snapshot.specs.CommandTable.{isCommand, commandLength}
 use borrow.Author.Needs.{needs}
 use Rattle.snapshot.proofs.table.command_length.Statement.{statement}
 use Rattle.snapshot.proofs.table.command_length.Tie as tie
 
-command-size-requires : tie.Need-command-size-requires
-command-size-requires c κs = search needs
+entry-of-requires : tie.Need-entry-of-requires
+entry-of-requires c κs = search needs
 
 returns : tie.Need-returns
 unfolding isCommand commandLength
-returns c = rw (← (c .before .command-size .ensures), c .if1 .taken)
+returns c = rw (← (c .before .entry-of .ensures .0), c .if1 .taken)
 
 returns-2 : tie.Need-returns-2
 unfolding isCommand commandLength
-returns-2 c = rw (← (c .before .command-size .ensures), ne-eqb _ _ (c .if1 .left))
+returns-2 c = rw (← (c .before .entry-of .ensures .0), ne-eqb _ _ (c .if1 .left))
 
 pub command-length-spec : {M : Type 1} → statement M
-command-length-spec = tie.close (tie.spec command-size-requires returns returns-2)
+command-length-spec = tie.close (tie.spec entry-of-requires returns returns-2)

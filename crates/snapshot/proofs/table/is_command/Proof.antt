@@ -4,12 +4,12 @@ use borrow.Author.Needs.{needs}
 use Rattle.snapshot.proofs.table.is_command.Statement.{statement}
 use Rattle.snapshot.proofs.table.is_command.Tie as tie
 
-command-size-requires : tie.Need-command-size-requires
-command-size-requires c κs = search needs
+entry-of-requires : tie.Need-entry-of-requires
+entry-of-requires c κs = search needs
 
 returns : tie.Need-returns
 unfolding isCommand
-returns c = rw (← (c .command-size .ensures))
+returns c = rw (← (c .before .entry-of .ensures .0))
 
 pub is-command-spec : {M : Type 1} → statement M
-is-command-spec = tie.close (tie.spec command-size-requires returns)
+is-command-spec = tie.close (tie.spec entry-of-requires returns)
