@@ -6,34 +6,27 @@ use mathlib.Core.List.{List}
 use native.Mathlib.Omega.{arith}
 use borrow.Author.Tests.{le-leb, lt-leb, leb-false, ne-eqb}
 use lib.Dec.{eqb, leb, eqb·suc-zero}
-use lib.IntN.{ℤ}
 use lib.ListN.{length, drop, getD, length-drop}
 use lib.Seq.{drop-cons}
-use Rattle.state.specs.Rejections.{unless, _then_, short-buffer}
+use Rattle.state.specs.Rejections.{unless, short-buffer}
 use Rattle.state.specs.States.{check}
 use Rattle.state.specs.declared.State.{State}
-use Rattle.state.specs.declared.Answer.the-variants as answer-of
 use Rattle.state.specs.declared.Outcome.the-variants as outcome-of
 use Rattle.state.proofs.Answers.{outcome-accepted}
 use Rattle.state.proofs.Tests.{then-zero}
 use Rattle.state.proofs.Passing.{bounded}
-use Rattle.ets.specs.Steps.{step, missing}
-use Rattle.ets.specs.Forecasts.{forecast}
-use Rattle.ets.specs.declared.Stepped.{Stepped}
-use Rattle.ets.specs.declared.Missed.{Missed}
-use Rattle.weights.specs.Weights.{variance}
-use Rattle.weights.specs.declared.Variance.the-variants as variance-of
-use Rattle.snapshot.specs.Answers.{lengthAnswer}
+use Rattle.snapshot.specs.Answers.{lengthAnswer, lengthValue}
 use Rattle.snapshot.specs.Bytes.{fromBytes, unsignedAt}
 use Rattle.snapshot.specs.CommandTable.{commandSize, isCommand, onlyInSnapshot, commandLength}
 use Rattle.snapshot.specs.Layout.{sizeOf}
 use Rattle.snapshot.specs.Snapshots.{openCode, openOffset, read, restOf, bytesNeeded, encoded, save, saveCode}
 use Rattle.snapshot.specs.declared.Opened.{Opened}
 use Rattle.snapshot.specs.declared.Length.the-variants as length-of
+use Rattle.snapshot.proofs.AnswerLaws.{lengths}
 use Rattle.snapshot.proofs.OffsetLaws.{offsets}
 use Rattle.snapshot.proofs.RoundTrip.{length-encoded}
 use Rattle.lines.specs.declared.Reply.the-variants as reply-of
-use Rattle.commands.specs.Commands.{commandCode, operands, decoded, decode, accepted, rejected, restOffset, openSnapshot, takeReading, takeMissing, giveForecast, giveVariance, saveState, act, buffered, perform, performBytes}
+use Rattle.commands.specs.Commands.{commandCode, operands, decoded, decode, accepted, rejected, restOffset, openSnapshot, act, buffered, perform, performBytes}
 use Rattle.commands.specs.declared.Session.{Session}
 use Rattle.commands.specs.declared.decoding.Command.{Command}
 use Rattle.commands.specs.declared.decoding.Command.the-variants as command-of
@@ -96,22 +89,21 @@ table-rejected b n e =
     let k = unknown-is (isCommand b) (q .0) in
     (k, rw k at (q .1))
 
-pub needed : (s : State) (n : ℕ) → check s ≡ 0 → bytesNeeded s ≡ length-of.Bytes n → n ≡ length (encoded s)
-unfolding bytesNeeded
-needed s n z e = of-bytes (sizeOf (s .period)) n (check s) e .1 ∙ sym (length-encoded s)
-
-pub not-rejected : (s : State) (n : ℕ) → check s ≡ 0 → bytesNeeded s ≡ length-of.Rejected n → ⊥
-unfolding bytesNeeded
-not-rejected s n z e = of-rejected (sizeOf (s .period)) n (check s) e .0 z
-
 pub snapshot-most : (s : State) → check s ≡ 0 → length (encoded s) ≤ 526
 snapshot-most s e = omega (arith, length-encoded s, bounded s e .period)
 
-pub saves : (s : State) (room : ℕ) → save s room ≡ outcome-of.Accepted → (check s ≡ 0) × (saveCode s room ≡ 0)
-unfolding save saveCode
-saves s room e =
-    let z = outcome-accepted (saveCode s room) e in
-    (then-zero (check s) (unless (leb (sizeOf (s .period)) room) short-buffer) z .0, z)
+-- what was saved passes its checks, and the bytes that were told are its snapshot's
+module _ (s : State) (room : ℕ) (e : save s room ≡ outcome-of.Accepted) where
+  passes : check s ≡ 0
+  unfolding save saveCode
+  passes = then-zero (check s) (unless (leb (sizeOf (s .period)) room) short-buffer) (outcome-accepted (saveCode s room) e) .0
+
+  pub count-is : lengthValue (bytesNeeded s) ≡ length (encoded s)
+  unfolding bytesNeeded
+  count-is = lengths (check s) (sizeOf (s .period)) .value passes ∙ sym (length-encoded s)
+
+  pub count-most : lengthValue (bytesNeeded s) ≤ 526
+  count-most = rw count-is (snapshot-most s passes)
 
 -- ---- a command is decoded: the end, then 2, 3, 4, then its operands
 module _ (s : List ℕ) (at : ℕ) (active : Bool) where
@@ -169,50 +161,6 @@ pub opened-accepted : (s : List ℕ) (x : Session) (g : Opened) → openCode (dr
     → openSnapshot s x ≡ accepted (reply-of.Opened (g .state .model) (g .state .period)) (restOffset s (x .at)) (g .state)
 unfolding openSnapshot
 opened-accepted s x g z q = rw (z, ← q)
-
-module _ (x : Session) (next : ℕ) where
-  pub reading-accepted : (y : ℤ) (t : Stepped) (e : ℤ) → t ≡ step (x .state) y → t .residual ≡ answer-of.Accepted e
-      → takeReading x next y ≡ accepted (reply-of.Residual e) next (t .state)
-  unfolding takeReading
-  reading-accepted y t e q h = rw (← q, h)
-
-  pub reading-rejected : (y : ℤ) (t : Stepped) (n : ℕ) → t ≡ step (x .state) y → t .residual ≡ answer-of.Rejected n
-      → takeReading x next y ≡ rejected n (x .at) x
-  unfolding takeReading
-  reading-rejected y t n q h = rw (← q, h)
-
-  pub missing-accepted : (t : Missed) → t ≡ missing (x .state) → t .outcome ≡ outcome-of.Accepted → takeMissing x next ≡ accepted reply-of.Missing next (t .state)
-  unfolding takeMissing
-  missing-accepted t q h = rw (← q, h)
-
-  pub missing-rejected : (t : Missed) (n : ℕ) → t ≡ missing (x .state) → t .outcome ≡ outcome-of.Rejected n → takeMissing x next ≡ rejected n (x .at) x
-  unfolding takeMissing
-  missing-rejected t n q h = rw (← q, h)
-
-  pub forecast-accepted : (h : ℕ) (v : ℤ) → forecast (x .state) h ≡ answer-of.Accepted v → giveForecast x next h ≡ accepted (reply-of.Forecast h v) next (x .state)
-  unfolding giveForecast
-  forecast-accepted h v e = rw e
-
-  pub forecast-rejected : (h n : ℕ) → forecast (x .state) h ≡ answer-of.Rejected n → giveForecast x next h ≡ rejected n (x .at) x
-  unfolding giveForecast
-  forecast-rejected h n e = rw e
-
-  pub variance-accepted : (h k high low : ℕ) → variance (x .state) h k ≡ variance-of.Accepted high low
-      → giveVariance x next h k ≡ accepted (reply-of.Variance h high low) next (x .state)
-  unfolding giveVariance
-  variance-accepted h k high low e = rw e
-
-  pub variance-rejected : (h k n : ℕ) → variance (x .state) h k ≡ variance-of.Rejected n → giveVariance x next h k ≡ rejected n (x .at) x
-  unfolding giveVariance
-  variance-rejected h k n e = rw e
-
-  pub save-accepted : (room : ℕ) → save (x .state) room ≡ outcome-of.Accepted → saveState x next room ≡ accepted (reply-of.Saved (length (encoded (x .state)))) next (x .state)
-  unfolding saveState
-  save-accepted room e = rw e
-
-  pub save-rejected : (room n : ℕ) → save (x .state) room ≡ outcome-of.Rejected n → saveState x next room ≡ rejected n (x .at) x
-  unfolding saveState
-  save-rejected room n e = rw e
 
 -- ---- the command that was decoded is performed
 module _ (s : List ℕ) (x : Session) (d : Decoded) (k : Command) (q : d ≡ decode s (x .at) (x .active)) (e : d .command ≡ k) where

@@ -35,7 +35,7 @@ use Rattle.lines.specs.declared.Reply.{Reply}
 use Rattle.lines.specs.declared.Reply.the-variants as reply-of
 use Rattle.lines.specs.declared.Line.the-variants as line-of
 use Rattle.lines.proofs.LineLaws.{savedCount, line-most, long-enough}
-use Rattle.commands.specs.Commands.{start, stopped, accepted, rejected, byOutcome, byAnswer, byVariance, commandCode, operands, decode, finish, restOffset, openSnapshot, takeReading, takeMissing, giveForecast, giveVariance, saveState, act, buffered, perform, performBytes, isLast}
+use Rattle.commands.specs.Commands.{start, accepted, rejected, byOutcome, byAnswer, byVariance, commandCode, operands, decode, finish, restOffset, openSnapshot, takeReading, takeMissing, giveForecast, giveVariance, saveState, act, buffered, perform, performBytes, isLast}
 use Rattle.commands.specs.Stream.{inputLimit, snapshotRoom, lineRoom, admit, next, answersIn, answersFrom, answersOf, answers, writeNext, nextBytes, finalReply, lastReply, lineAfter, textOf}
 use Rattle.commands.specs.Promises.{Passes, Sound, Sessions, EndsOnce, Answers, Openings, Offsets}
 use Rattle.commands.specs.declared.Session.{Session}

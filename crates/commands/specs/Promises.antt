@@ -1,5 +1,5 @@
 -- The promises about whole streams.
-use Prim.Native.Nat.{ℕ, _+_, _≤_, _<_}
+use Prim.Native.Nat.{ℕ, _≤_, _<_}
 use mathlib.Core.Path.{_≡_}
 use mathlib.Core.Bool.{true, false, cond}
 use mathlib.Core.List.{List, [], _∷_, _++_}
@@ -50,15 +50,15 @@ pub record Replaced (s : List ℕ) (x : Session) (room : ℕ) : Type 0 where
   pub whole : openCode (drop (x .at) s) ≡ 0 → perform s x room .session .state ≡ decoded (drop (x .at) s)
   pub otherwise : (openCode (drop (x .at) s) ≡ 0 → ⊥) → perform s x room .session ≡ x
 
+pub record Openings : Type 0 where
+  pub replaced : (s : List ℕ) (x : Session) (room : ℕ) → decode s (x .at) (x .active) .command ≡ command-of.Open → Replaced s x room
+
 -- X: 0 for refusal 1, and the input's length where refusal 4 finds no command begun
 pub record Offsets : Type 0 where
   pub long : (s : List ℕ) → inputLimit < length s → answers s ≡ rejected input-too-long 0 start ∷ []
   pub none : (s : List ℕ) (x : Session) (room : ℕ) → decode s (x .at) (x .active) .command ≡ command-of.Open
       → openCode (drop (x .at) s) ≡ truncated → length (drop (x .at) s) ≤ openOffset (drop (x .at) s)
       → perform s x room .reply ≡ reply-of.Rejected truncated (length s)
-
-pub record Openings : Type 0 where
-  pub replaced : (s : List ℕ) (x : Session) (room : ℕ) → decode s (x .at) (x .active) .command ≡ command-of.Open → Replaced s x room
 
 -- the listing: model 0, A = 32768, all else 0, then reading 10, forecast 2, variance 2 with σ² 4
 abbrev pub listing : List ℕ

@@ -18,8 +18,8 @@ use weights::variances::variance;
 ghost use mathlib.Core.Path.{_≡_};
 ghost use Prim.Native.Nat.{_≤_};
 ghost use lib.ListN.{length};
-ghost use Rattle.state.specs.States.{check};
-ghost use Rattle.snapshot.specs.Snapshots.{encoded, savedBytes};
+ghost use Rattle.snapshot.specs.Answers.{lengthValue};
+ghost use Rattle.snapshot.specs.Snapshots.{savedBytes};
 ghost use Rattle.commands.specs.Commands.{accepted, rejected, finish, openSnapshot, takeReading, takeMissing, giveForecast, giveVariance, saveState};
 
 pub fn reject(code: u8, offset: usize, x: Session) -> Performed
@@ -131,6 +131,17 @@ pub fn give_variance(x: Session, next: usize, horizon: u32, sigma2: u32) -> Perf
     }
 }
 
+// The bytes that were told, as a reply carries them.
+fn count_of(told: Length) -> u32
+    requires { ⌜ lengthValue told ≤ 526 ⌝ }
+    ensures { λ r. ⌜ r ≡ lengthValue told ⌝ }
+{
+    match told {
+        Length::Bytes(n) => n as u32,
+        Length::Rejected(_) => 0,
+    }
+}
+
 pub fn save_state(x: Session, next: usize, buffer: &mut [u8]) -> Performed
     ensures answer { λ r. ⌜ r ≡ saveState x next (length (now (buffer .entry))) ⌝ }
     ensures bytes { λ _. ⌜ now (buffer .exit) ≡ savedBytes (x .state) (now (buffer .entry)) ⌝ }
@@ -138,19 +149,7 @@ pub fn save_state(x: Session, next: usize, buffer: &mut [u8]) -> Performed
     let state = x.state;
     let outcome = save(state, buffer);
     match outcome {
-        Outcome::Accepted => accept(Reply::Saved(saved_length(state)), next, state),
+        Outcome::Accepted => accept(Reply::Saved(count_of(bytes_needed(state))), next, state),
         Outcome::Rejected(code) => reject(code, x.at, x),
-    }
-}
-
-// The bytes of a saved state.
-fn saved_length(s: State) -> u32
-    requires { ⌜ check s ≡ 0 ⌝ }
-    ensures { λ r. ⌜ r ≡ length (encoded s) ⌝ }
-{
-    let needed = bytes_needed(s);
-    match needed {
-        Length::Bytes(n) => n as u32,
-        Length::Rejected(_) => 0,
     }
 }

@@ -4,6 +4,9 @@
 use commands::INPUT_LIMIT;
 ghost use Prim.Native.Nat.{_<_};
 
+// More records than any file of streams has, so that the program ends.
+const MAX_RECORDS: usize = 100000;
+
 fn wide(b: u8) -> usize
     ensures { λ r. ⌜ r < 256 ⌝ }
 {
@@ -52,7 +55,7 @@ fn main() {
     let mut path = io::buffer();
     let k = os::arg(1, &mut path);
     let fd = os::open_read(&path[..k]);
-    let mut left: usize = 100000;
+    let mut left = MAX_RECORDS;
     while 0 < left {
         if !play_next(fd) {
             return;

@@ -1,5 +1,4 @@
 -- `commands::admit` meets its contract.
-use borrow.Author.Needs.{needs}
 use Rattle.commands.specs.Stream.{admit}
 use borrow.Author.Tests.{le-leb, lt-leb}
 use Rattle.commands.proofs.admit.Statement.{statement}

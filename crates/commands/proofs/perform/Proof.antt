@@ -4,7 +4,7 @@ use Rattle.commands.specs.declared.decoding.Decoded.{Decoded}
 use Rattle.commands.proofs.CommandLaws.{performs, leaves, inside}
 use mir.ValLaws.{toZ-ofZ}
 use mir.Syntax.{w32}
-use mathlib.Core.Path.{refl, sym, ap, _∙_}
+use mathlib.Core.Path.{sym, ap, _∙_}
 use Rattle.commands.proofs.perform.Statement.{statement}
 use Rattle.commands.proofs.perform.Tie as tie
 

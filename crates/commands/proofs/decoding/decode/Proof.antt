@@ -1,11 +1,9 @@
 -- `commands::decoding::decode` meets its contract.
 use borrow.Author.Needs.{needs}
 use Rattle.commands.proofs.CommandLaws.{table-bytes, table-rejected, decode-end, decode-unknown, decode-stray, decode-short, decode-whole}
-use Rattle.commands.specs.declared.decoding.Command.the-variants as command-of
-use Rattle.commands.specs.Commands.{decoded}
 use borrow.Author.Tests.{not-true, not-false}
 use native.Mathlib.Omega.{arith}
-use mathlib.Core.Path.{refl, sym, ap, _∙_}
+use mathlib.Core.Path.{sym, _∙_}
 use Rattle.commands.proofs.decoding.decode.Statement.{statement}
 use Rattle.commands.proofs.decoding.decode.Tie as tie
 

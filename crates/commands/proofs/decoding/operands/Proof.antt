@@ -7,7 +7,7 @@ use mir.ValLaws.{toZ-ofZ}
 use mir.Syntax.{w32}
 use borrow.Author.Tests.{ne-eqb}
 use native.Mathlib.Omega.{arith}
-use mathlib.Core.Path.{refl, sym, ap, _∙_}
+use mathlib.Core.Path.{ap, _∙_}
 use Rattle.commands.proofs.decoding.operands.Statement.{statement}
 use Rattle.commands.proofs.decoding.operands.Tie as tie
 

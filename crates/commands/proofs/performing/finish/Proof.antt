@@ -1,5 +1,4 @@
 -- `commands::performing::finish` meets its contract.
-use borrow.Author.Needs.{needs}
 use Rattle.commands.specs.Commands.{finish}
 use Rattle.commands.proofs.performing.finish.Statement.{statement}
 use Rattle.commands.proofs.performing.finish.Tie as tie

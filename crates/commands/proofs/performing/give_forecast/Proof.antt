@@ -1,9 +1,8 @@
 -- `commands::performing::give_forecast` meets its contract.
 use borrow.Author.Needs.{needs}
-use Rattle.commands.proofs.CommandLaws.{forecast-accepted, forecast-rejected}
+use Rattle.commands.specs.Commands.{giveForecast}
 use mir.ValLaws.{toZ-ofZ}
 use mir.Syntax.{w64}
-use mathlib.Core.Path.{refl, sym, ap, _∙_}
 use Rattle.commands.proofs.performing.give_forecast.Statement.{statement}
 use Rattle.commands.proofs.performing.give_forecast.Tie as tie
 
@@ -23,16 +22,14 @@ reject-requires : tie.Need-reject-requires
 reject-requires c κs = search needs
 
 returns : tie.Need-returns
+unfolding giveForecast
 returns c =
-    let a = c .before .before .before .before .before .before .args in
     let e = c .before .before .found .given in
-    rw (toZ-ofZ w64 (e .0 .0) (search needs)) at (c .accept .ensures) ∙ sym (forecast-accepted (a .x) (a .next) (a .horizon) (e .0 .0) (sym (c .before .before .before .before .forecast .ensures) ∙ e .1))
+    rw (← (c .before .before .before .before .forecast .ensures), e .1) (rw (toZ-ofZ w64 (e .0 .0) (search needs)) at (c .accept .ensures))
 
 returns-2 : tie.Need-returns-2
-returns-2 c =
-    let a = c .before .before .before .before .before .before .args in
-    let e = c .before .before .found2 .given in
-    c .reject .ensures ∙ sym (forecast-rejected (a .x) (a .next) (a .horizon) (e .0 .0) (sym (c .before .before .before .before .forecast .ensures) ∙ e .1))
+unfolding giveForecast
+returns-2 c = rw (← (c .before .before .before .before .forecast .ensures), c .before .before .found2 .given .1) (c .reject .ensures)
 
 pub give-forecast-spec : {M : Type 1} → statement M
 give-forecast-spec =

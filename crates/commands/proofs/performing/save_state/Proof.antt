@@ -1,9 +1,9 @@
 -- `commands::performing::save_state` meets its contract.
 use borrow.Author.Needs.{needs}
-use Rattle.commands.specs.Commands.{accepted}
-use Rattle.lines.specs.declared.Reply.the-variants as reply-of
-use Rattle.commands.proofs.CommandLaws.{saves, save-accepted, save-rejected}
-use mathlib.Core.Path.{refl, sym, ap, _∙_}
+use Rattle.commands.proofs.CommandLaws.{count-is, count-most}
+use Rattle.commands.specs.Commands.{saveState}
+use Rattle.snapshot.specs.Answers.{lengthValue}
+use mathlib.Core.Path.{sym, ap, _∙_}
 use Rattle.commands.proofs.performing.save_state.Statement.{statement}
 use Rattle.commands.proofs.performing.save_state.Tie as tie
 
@@ -13,8 +13,11 @@ save-requires c κs = search needs
 enum-told : tie.Need-enum-told
 enum-told c = search needs
 
-saved-length-requires : tie.Need-saved-length-requires
-saved-length-requires c κs = saves _ _ (sym (c .before .before .before .before .save .ensures .0) ∙ c .enum-told .given .1) .0
+bytes-needed-requires : tie.Need-bytes-needed-requires
+bytes-needed-requires c κs = search needs
+
+count-of-requires : tie.Need-count-of-requires
+count-of-requires c κs = rw (c .bytes-needed .ensures) (count-most _ _ (sym (c .before .before .before .before .before .save .ensures .0) ∙ c .before .enum-told .given .1))
 
 accept-requires : tie.Need-accept-requires
 accept-requires c κs = search needs
@@ -29,21 +32,21 @@ same-length : tie.Need-same-length
 same-length c = search needs
 
 returns : tie.Need-returns
+unfolding saveState
 returns c =
-    let a = c .before .before .before .before .before .before .before .before .before .before .args in
-    let e = sym (c .before .before .before .before .before .before .save .ensures .0) ∙ c .before .before .enum-told .given .1 in (
-      rw (c .before .saved-length .ensures) at (c .accept .ensures) ∙ sym (save-accepted (a .x) (a .next) _ e),
-      c .before .before .before .before .before .before .save .ensures .1,
-    )
+    let r = c .before .before .before .before .before .before .before .save .ensures in
+    let e = c .before .before .before .enum-told .given .1 in
+    let n = c .before .count-of .ensures ∙ ap lengthValue (c .before .before .bytes-needed .ensures) ∙ count-is _ _ (sym (r .0) ∙ e) in
+    (rw (← (r .0), e, ← n) (c .accept .ensures), r .1)
 
 same-length-2 : tie.Need-same-length-2
 same-length-2 c = search needs
 
 returns-2 : tie.Need-returns-2
+unfolding saveState
 returns-2 c =
-    let a = c .before .before .before .before .before .before .before .before .before .before .args in
-    let e = sym (c .before .before .before .before .before .before .save .ensures .0) ∙ c .before .before .outcome .given .1 in
-    (c .reject .ensures ∙ sym (save-rejected (a .x) (a .next) _ _ e), c .before .before .before .before .before .before .save .ensures .1)
+    let r = c .before .before .before .before .before .before .save .ensures in
+    (rw (← (r .0), c .before .before .outcome .given .1) (c .reject .ensures), r .1)
 
 pub save-state-spec : {M : Type 1} → statement M
 save-state-spec =
@@ -51,7 +54,8 @@ save-state-spec =
     (tie.spec
     save-requires
     enum-told
-    saved-length-requires
+    bytes-needed-requires
+    count-of-requires
     accept-requires
     enum-known-outcome
     reject-requires

@@ -1,7 +1,6 @@
 -- `commands::performing::take_missing` meets its contract.
 use borrow.Author.Needs.{needs}
-use Rattle.commands.proofs.CommandLaws.{missing-accepted, missing-rejected}
-use mathlib.Core.Path.{refl, sym, ap, _∙_}
+use Rattle.commands.specs.Commands.{takeMissing}
 use Rattle.commands.proofs.performing.take_missing.Statement.{statement}
 use Rattle.commands.proofs.performing.take_missing.Tie as tie
 
@@ -21,14 +20,12 @@ reject-requires : tie.Need-reject-requires
 reject-requires c κs = search needs
 
 returns : tie.Need-returns
-returns c =
-    let a = c .before .before .before .before .before .before .args in
-    c .accept .ensures ∙ sym (missing-accepted (a .x) (a .next) _ (c .before .before .before .before .missing .ensures) (c .before .enum-told .given .1))
+unfolding takeMissing
+returns c = rw (← (c .before .before .before .before .missing .ensures), c .before .enum-told .given .1) (c .accept .ensures)
 
 returns-2 : tie.Need-returns-2
-returns-2 c =
-    let a = c .before .before .before .before .before .before .before .args in
-    c .reject .ensures ∙ sym (missing-rejected (a .x) (a .next) _ _ (c .before .before .before .before .before .missing .ensures) (c .before .before .outcome .given .1))
+unfolding takeMissing
+returns-2 c = rw (← (c .before .before .before .before .before .missing .ensures), c .before .before .outcome .given .1) (c .reject .ensures)
 
 pub take-missing-spec : {M : Type 1} → statement M
 take-missing-spec =

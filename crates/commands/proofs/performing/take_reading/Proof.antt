@@ -1,10 +1,8 @@
 -- `commands::performing::take_reading` meets its contract.
 use borrow.Author.Needs.{needs}
-use Rattle.commands.proofs.CommandLaws.{reading-accepted, reading-rejected}
-use Rattle.ets.specs.Steps.{step}
+use Rattle.commands.specs.Commands.{takeReading}
 use mir.ValLaws.{toZ-ofZ}
 use mir.Syntax.{w32, w64}
-use mathlib.Core.Path.{refl, sym, ap, _∙_}
 use Rattle.commands.proofs.performing.take_reading.Statement.{statement}
 use Rattle.commands.proofs.performing.take_reading.Tie as tie
 
@@ -24,20 +22,19 @@ reject-requires : tie.Need-reject-requires
 reject-requires c κs = search needs
 
 returns : tie.Need-returns
+unfolding takeReading
 returns c =
     let s = c .before .before .before .before .before .before .before in
-    let t = c .before .before .before .before .before .step in
-    let q = t .ensures ∙ ap (step (s .args .x .state)) (toZ-ofZ w32 (s .args .y) (s .fits .y)) in
+    let t = rw (toZ-ofZ w32 (s .args .y) (s .fits .y)) at (c .before .before .before .before .before .step .ensures) in
     let e = c .before .before .residual .given in
-    rw (toZ-ofZ w64 (e .0 .0) (search needs)) at (c .accept .ensures) ∙ sym (reading-accepted (s .args .x) (s .args .next) _ (t .result) (e .0 .0) q (e .1))
+    rw (← t, e .1) (rw (toZ-ofZ w64 (e .0 .0) (search needs)) at (c .accept .ensures))
 
 returns-2 : tie.Need-returns-2
+unfolding takeReading
 returns-2 c =
     let s = c .before .before .before .before .before .before .before in
-    let t = c .before .before .before .before .before .step in
-    let q = t .ensures ∙ ap (step (s .args .x .state)) (toZ-ofZ w32 (s .args .y) (s .fits .y)) in
-    let e = c .before .before .residual2 .given in
-    c .reject .ensures ∙ sym (reading-rejected (s .args .x) (s .args .next) _ (t .result) (e .0 .0) q (e .1))
+    let t = rw (toZ-ofZ w32 (s .args .y) (s .fits .y)) at (c .before .before .before .before .before .step .ensures) in
+    rw (← t, c .before .before .residual2 .given .1) (c .reject .ensures)
 
 pub take-reading-spec : {M : Type 1} → statement M
 take-reading-spec =

@@ -2,14 +2,12 @@
 use borrow.Author.Needs.{needs}
 use Rattle.lines.proofs.DigitLaws.{put-then, length-hexadecimal}
 use Rattle.lines.specs.declared.fields.Number.{Number}
-use Rattle.lines.specs.Lines.{numberBytes, Put}
+use Rattle.lines.specs.Lines.{numberBytes}
 use mir.ValLaws.{toZ-ofZ}
 use mir.Syntax.{w64}
 use lib.ListN.{length, take}
 use native.Mathlib.Omega.{arith}
-use Prim.Native.Nat.{ℕ}
-use mathlib.Core.List.{List}
-use mathlib.Core.Path.{_≡_, refl, ap}
+use mathlib.Core.Path.{refl, ap}
 use Rattle.lines.proofs.fields.put_number.Statement.{statement}
 use Rattle.lines.proofs.fields.put_number.Tie as tie
 
