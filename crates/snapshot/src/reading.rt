@@ -31,12 +31,13 @@ use state::checks::index_ok;
 use state::checks::parameters_ok;
 use state::checks::period_ok;
 use state::checks::trend_ok;
+use state::first;
 use state::models::model_ok;
+use state::unless;
 ghost use mathlib.Core.Path.{_≡_};
 ghost use mathlib.Core.Bool.{true, _&&_};
 ghost use Prim.Native.Nat.{_+_, _≤_, _<_};
 ghost use lib.ListN.{length};
-ghost use Rattle.state.specs.Rejections.{unless, _then_, bad-model, bad-period, bad-parameter};
 ghost use Rattle.state.specs.Fixed.{inRange};
 ghost use Rattle.state.specs.Models.{parametersOk};
 ghost use Rattle.state.specs.States.{trendOk};
@@ -48,13 +49,6 @@ ghost use Rattle.snapshot.specs.Snapshots.{dueCode, modelCode, levelCode
 pub struct Scanned {
     pub code: u8,
     pub offset: usize,
-}
-
-// A check: 0 where the test holds, else its rejection.
-fn unless(holds: bool, code: u8) -> u8
-    ensures { λ r. ⌜ r ≡ unless holds code ⌝ }
-{
-    if holds { 0 } else { code }
 }
 
 // The rejection of the command that is due at an offset, before its operands are looked at, or 0.
@@ -77,21 +71,6 @@ fn due(s: &[u8], at: usize, first: u8) -> u8
     unless(e.0 <= left, TRUNCATED)
 }
 
-// The first of three checks that fails, or 0.
-fn first_of(model: bool, period: bool, parameters: bool) -> u8
-    ensures { λ r. ⌜ r ≡ (unless model bad-model then unless period bad-period then unless parameters bad-parameter) ⌝ }
-{
-    if model {
-        if period {
-            if parameters { 0 } else { BAD_PARAMETER }
-        } else {
-            BAD_PERIOD
-        }
-    } else {
-        BAD_MODEL
-    }
-}
-
 fn parameters_at(s: &[u8]) -> bool
     requires { ⌜ modelLength ≤ length (now s) ⌝ }
     ensures { λ r. ⌜ r ≡ parametersOk (modelIn (now (s .entry))) (alphaIn (now (s .entry))) (betaIn (now (s .entry))) (gammaIn (now (s .entry))) (phiIn (now (s .entry))) ⌝ }
@@ -108,16 +87,14 @@ fn parameters_at(s: &[u8]) -> bool
 fn model_code(s: &[u8]) -> u8
     ensures { λ r. ⌜ r ≡ modelCode (now (s .entry)) ⌝ }
 {
-    let code = due(s, MODEL_AT, 0x10);
-    if code != 0 {
-        return code;
+    let due_code = due(s, MODEL_AT, 0x10);
+    if due_code != 0 {
+        return due_code;
     }
     let model = s[MODEL_BYTE_AT];
-    first_of(
-        model_ok(model),
-        period_ok(model, s[PERIOD_AT]),
-        parameters_at(s),
-    )
+    let mut code = unless(model_ok(model), BAD_MODEL);
+    code = first(code, unless(period_ok(model, s[PERIOD_AT]), BAD_PERIOD));
+    first(code, unless(parameters_at(s), BAD_PARAMETER))
 }
 
 fn values_at(s: &[u8]) -> bool

@@ -1,9 +1,10 @@
--- `snapshot::reading::model_code` meets its contract: each return goes by the tests that led there.
+-- `snapshot::reading::model_code` meets its contract: the command is there, and its checks are taken one after the other.
 use Prim.Native.Nat.{_≤_}
 use mathlib.Core.Path.{refl, sym, _∙_}
 use native.Mathlib.Omega.{arith}
 use lib.ListN.{length}
 use borrow.Author.Tests.{eq-eqb, ne-eqb}
+use Rattle.state.proofs.Tests.{then-assoc}
 use Rattle.snapshot.specs.CommandTable.{isCommand, commandSize, modelLength}
 use Rattle.snapshot.specs.Layout.{modelAt}
 use Rattle.snapshot.specs.Snapshots.{modelCode}
@@ -31,24 +32,48 @@ shared-slice-read-model c = omega (arith, room (c .before))
 model-ok-requires : tie.Need-model-ok-requires
 model-ok-requires c κs = search needs
 
+unless-requires : tie.Need-unless-requires
+unless-requires c κs = search needs
+
 shared-slice-read-period-ok : tie.Need-shared-slice-read-period-ok
-shared-slice-read-period-ok c = omega (arith, room (c .before .before .before))
+shared-slice-read-period-ok c = omega (arith, room (c .before .before .before .before))
 
 period-ok-requires : tie.Need-period-ok-requires
 period-ok-requires c κs = search needs
 
-parameters-at-requires : tie.Need-parameters-at-requires
-parameters-at-requires c κs = room (c .before .before .before .before)
+unless-requires-2 : tie.Need-unless-requires-2
+unless-requires-2 c κs = search needs
 
-first-of-requires : tie.Need-first-of-requires
-first-of-requires c κs = search needs
+first-requires : tie.Need-first-requires
+first-requires c κs = search needs
+
+parameters-at-requires : tie.Need-parameters-at-requires
+parameters-at-requires c κs = room (c .before .before .before .before .before .before .before)
+
+unless-requires-3 : tie.Need-unless-requires-3
+unless-requires-3 c κs = search needs
+
+first-requires-2 : tie.Need-first-requires-2
+first-requires-2 c κs = search needs
 
 returns-2 : tie.Need-returns-2
 unfolding modelCode
 returns-2 c =
-    let m = c .before .before .before .before in
-    let i = m .before .before in
-    rw (← (i .before .due .ensures), eq-eqb _ _ (i .if1 .left), ← (m .model-ok .ensures), ← (c .before .before .period-ok .ensures), ← (c .before .parameters-at .ensures)) (c .first-of .ensures)
+    let p = c .before .before .before in
+    let m = p .before .before .before .before in
+    let i = m .before .before .before in
+    rw (← (i .before .due .ensures), eq-eqb _ _ (i .if1 .left))
+    (rw (
+      c .first2 .ensures,
+      c .before .unless3 .ensures,
+      c .before .before .parameters-at .ensures,
+      p .first .ensures,
+      p .before .unless2 .ensures,
+      p .before .before .period-ok .ensures,
+      m .unless .ensures,
+      m .before .model-ok .ensures,
+    )
+    (simp then-assoc))
 
 pub model-code-spec : {M : Type 1} → statement M
 model-code-spec =
@@ -58,8 +83,12 @@ model-code-spec =
     returns
     shared-slice-read-model
     model-ok-requires
+    unless-requires
     shared-slice-read-period-ok
     period-ok-requires
+    unless-requires-2
+    first-requires
     parameters-at-requires
-    first-of-requires
+    unless-requires-3
+    first-requires-2
     returns-2)
