@@ -28,59 +28,47 @@ pub struct Fields {
     pub third: Number,
 }
 
+fn three(letter: u8, first: Number, second: Number, third: Number) -> Fields
+    ensures { λ f. ⌜ f ≡ record { letter = letter; first = first; second = second; third = third } ⌝ }
+{
+    Fields {
+        letter,
+        first,
+        second,
+        third,
+    }
+}
+
+fn one(letter: u8, first: Number) -> Fields
+    ensures { λ f. ⌜ f ≡ record { letter = letter; first = first; second = Number.Nothing; third = Number.Nothing } ⌝ }
+{
+    three(letter, first, Number::Nothing, Number::Nothing)
+}
+
+fn two(letter: u8, first: u64, second: Number) -> Fields
+    ensures { λ f. ⌜ f ≡ record { letter = letter; first = Number.Unsigned first; second = second; third = Number.Nothing } ⌝ }
+{
+    three(letter, Number::Unsigned(first), second, Number::Nothing)
+}
+
 // The letter and the numbers of each reply.
 pub fn fields_of(r: Reply) -> Fields
     ensures { λ f. ⌜ f ≡ fieldsOf r ⌝ }
 {
     match r {
-        Reply::Opened { model, period } => Fields {
-            letter: b'O',
-            first: Number::Unsigned(model as u64),
-            second: Number::Unsigned(period as u64),
-            third: Number::Nothing,
-        },
-        Reply::Residual(e) => Fields {
-            letter: b'E',
-            first: Number::Signed(e),
-            second: Number::Nothing,
-            third: Number::Nothing,
-        },
-        Reply::Missing => Fields {
-            letter: b'M',
-            first: Number::Nothing,
-            second: Number::Nothing,
-            third: Number::Nothing,
-        },
-        Reply::Forecast { horizon, value } => Fields {
-            letter: b'F',
-            first: Number::Unsigned(horizon as u64),
-            second: Number::Signed(value),
-            third: Number::Nothing,
-        },
-        Reply::Variance { horizon, high, low } => Fields {
-            letter: b'V',
-            first: Number::Unsigned(horizon as u64),
-            second: Number::Unsigned(high),
-            third: Number::Unsigned(low),
-        },
-        Reply::Saved(n) => Fields {
-            letter: b'S',
-            first: Number::Hexadecimal(n),
-            second: Number::Nothing,
-            third: Number::Nothing,
-        },
-        Reply::Rejected { code, offset } => Fields {
-            letter: b'X',
-            first: Number::Unsigned(code as u64),
-            second: Number::Unsigned(offset as u64),
-            third: Number::Nothing,
-        },
-        Reply::Ended(count) => Fields {
-            letter: b'N',
-            first: Number::Unsigned(count),
-            second: Number::Nothing,
-            third: Number::Nothing,
-        },
+        Reply::Opened { model, period } => two(b'O', model as u64, Number::Unsigned(period as u64)),
+        Reply::Residual(e) => one(b'E', Number::Signed(e)),
+        Reply::Missing => one(b'M', Number::Nothing),
+        Reply::Forecast { horizon, value } => two(b'F', horizon as u64, Number::Signed(value)),
+        Reply::Variance { horizon, high, low } => three(
+            b'V',
+            Number::Unsigned(horizon as u64),
+            Number::Unsigned(high),
+            Number::Unsigned(low),
+        ),
+        Reply::Saved(n) => one(b'S', Number::Hexadecimal(n)),
+        Reply::Rejected { code, offset } => two(b'X', code as u64, Number::Unsigned(offset as u64)),
+        Reply::Ended(count) => one(b'N', Number::Unsigned(count)),
     }
 }
 
