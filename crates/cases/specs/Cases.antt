@@ -22,6 +22,11 @@ unfoldable pub Every : List Row → Type 0
 Every [] = Unit
 Every (row n given said ∷ rows) = (given ≡ said) × Every rows
 
+-- the cases of its rows
+unfoldable pub numbers : List Row → List ℕ
+numbers [] = []
+numbers (row n given said ∷ rows) = n ∷ numbers rows
+
 abbrev pub minus : ℕ → ℤ
 minus n = negℤ (pos n)
 
@@ -88,3 +93,7 @@ table =
     -- T12: straight, l and b 2^40, A and B 0, y 1,000,000: refusal 15.
     ∷ row 12 (stepCode (stateOf 1 0 0 0 0 65536 (pos (2 ^ 40)) (pos (2 ^ 40)) [] 0 0) (pos 1000000)) 15
     ∷ []
+
+-- so many comparisons for each case
+abbrev pub compared : List ℕ
+compared = 1 ∷ 1 ∷ 1 ∷ 1 ∷ 2 ∷ 2 ∷ 2 ∷ 2 ∷ 3 ∷ 3 ∷ 4 ∷ 4 ∷ 5 ∷ 5 ∷ 5 ∷ 5 ∷ 6 ∷ 7 ∷ 8 ∷ 9 ∷ 9 ∷ 10 ∷ 10 ∷ 11 ∷ 11 ∷ 11 ∷ 11 ∷ 11 ∷ 12 ∷ []

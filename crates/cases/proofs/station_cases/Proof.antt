@@ -1,9 +1,12 @@
+use mathlib.Core.Path.{refl}
+use Rattle.cases.specs.Cases.{numbers, table}
 use Rattle.cases.proofs.Theorem.{all-rows}
 use Rattle.cases.proofs.station_cases.Statement.{statement}
 use Rattle.cases.proofs.station_cases.Tie as tie
 
 returns : tie.Need-returns
-returns c = all-rows
+unfolding numbers table
+returns c = (all-rows, refl)
 
 pub station-cases-spec : {M : Type 1} → statement M
 station-cases-spec = tie.close (tie.spec returns)
