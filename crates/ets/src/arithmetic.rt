@@ -56,7 +56,7 @@ pub fn numbers_of(s: State) -> Numbers
     }
 }
 
-fn terms(n: Numbers) -> Terms
+fn terms_at(n: Numbers) -> Terms
     requires { ⌜ NumbersIn n ⌝ }
     ensures { λ r. ⌜ r ≡ termsAt n ⌝ }
 {
@@ -78,7 +78,7 @@ fn residual(t: Terms, y: i32) -> i64
     65536 * (y as i64) - (t.level + t.damped + t.season)
 }
 
-fn correct(t: Terms, e: i64) -> Update
+fn corrections(t: Terms, e: i64) -> Update
     requires { ⌜ TermsIn t × Within 3364070883328 e ⌝ }
     ensures { λ r. ⌜ r ≡ corrections t e ⌝ }
 {
@@ -123,7 +123,7 @@ fn early_code(count: u64, y: i32) -> u8
 }
 
 // A reading: its rejection (13, 14, 15), or the numbers after it.
-pub fn read(n: Numbers, y: i32) -> Update
+pub fn reading_update(n: Numbers, y: i32) -> Update
     requires { ⌜ NumbersIn n ⌝ }
     ensures { λ r. ⌜ r ≡ readingUpdate n y ⌝ }
 {
@@ -131,8 +131,8 @@ pub fn read(n: Numbers, y: i32) -> Update
     if code != 0 {
         return not_updated(code);
     }
-    let t = terms(n);
-    let u = correct(t, residual(t, y));
+    let t = terms_at(n);
+    let u = corrections(t, residual(t, y));
     if stays(u) {
         u
     } else {

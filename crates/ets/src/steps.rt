@@ -5,7 +5,7 @@ use super::Update;
 use super::arithmetic::count_code;
 use super::arithmetic::next_index;
 use super::arithmetic::numbers_of;
-use super::arithmetic::read;
+use super::arithmetic::reading_update;
 use state::Answer;
 use state::Outcome;
 use state::State;
@@ -50,7 +50,7 @@ pub fn step(s: State, y: i32) -> Stepped
     if n != 0 {
         return rejected_step(s, n);
     }
-    let u = read(numbers_of(s), y);
+    let u = reading_update(numbers_of(s), y);
     let k = u.code;
     if k != 0 {
         return rejected_step(s, k);

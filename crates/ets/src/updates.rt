@@ -2,7 +2,7 @@
 use super::Numbers;
 use super::Update;
 use super::arithmetic::not_updated;
-use super::arithmetic::read;
+use super::arithmetic::reading_update;
 use state::BAD_PARAMETER;
 use state::BAD_POSITION;
 use state::BAD_VALUE;
@@ -44,5 +44,5 @@ pub fn update(n: Numbers, y: i32) -> Update
     if code != 0 {
         return not_updated(code);
     }
-    read(n, y)
+    reading_update(n, y)
 }

@@ -22,10 +22,10 @@ facts : (c : tie.Else1) → Valid (c .before .before .args .s)
 facts c = valid _ (passes c)
 
 -- what was read is the update of the state
-numbers-are : (c : tie.After-read) → let s = c .before .before .before .before .args in c .read .result ≡ readingUpdate (numbersOf (s .s)) (s .y)
-numbers-are c = rw (c .before .numbers-of .ensures, toZ-ofZ (c .before .before .before .before .fits .y)) at (c .read .ensures)
+numbers-are : (c : tie.After-reading-update) → let s = c .before .before .before .before .args in c .reading-update .result ≡ readingUpdate (numbersOf (s .s)) (s .y)
+numbers-are c = rw (c .before .numbers-of .ensures, toZ-ofZ (c .before .before .before .before .fits .y)) at (c .reading-update .ensures)
 
-code-is : (c : tie.After-read) → let s = c .before .before .before .before .args in c .read .result .code ≡ stepCode (s .s) (s .y)
+code-is : (c : tie.After-reading-update) → let s = c .before .before .before .before .args in c .reading-update .result .code ≡ stepCode (s .s) (s .y)
 code-is c = ap (λ (u : Update). u .code) (numbers-are c) ∙ read-code _ (passes (c .before .before)) _
 
 check-requires : tie.Need-check-requires
@@ -45,8 +45,8 @@ returns c =
 numbers-of-requires : tie.Need-numbers-of-requires
 numbers-of-requires c κs = facts c .bounded .index
 
-read-requires : tie.Need-read-requires
-read-requires c κs = rw (c .numbers-of .ensures) (numbers-in _ (facts (c .before)))
+reading-update-requires : tie.Need-reading-update-requires
+reading-update-requires c κs = rw (c .numbers-of .ensures) (numbers-in _ (facts (c .before)))
 
 rejected-step-requires-2 : tie.Need-rejected-step-requires-2
 rejected-step-requires-2 c κs = search needs
@@ -55,7 +55,7 @@ returns-2 : tie.Need-returns-2
 returns-2 c =
     let r = c .before .before in
     let s = r .before .before .before .before .args in
-    c .rejected-step2 .ensures ∙ sym (step-rejected (s .s) (s .y) (r .read .result .code) (sym (code-is r)) (c .before .if2 .taken))
+    c .rejected-step2 .ensures ∙ sym (step-rejected (s .s) (s .y) (r .reading-update .result .code) (sym (code-is r)) (c .before .if2 .taken))
 
 store-requires : tie.Need-store-requires
 store-requires c κs =
@@ -71,7 +71,7 @@ returns-3 c =
     let z = sym (code-is r) ∙ c .before .before .if2 .left in
     let n = numbers-are r ∙ read-is (s .s) (passes (r .before .before)) (s .y) z in
     let x = c .store .ensures ∙ ap (stored (s .s)) n ∙ stored-is (s .s) (facts (r .before .before)) (residualOf (s .s) (s .y)) in
-    rw (step-accepted (s .s) (s .y) z, x, back w64 (r .read .result .residual) (c .before .struct-told .given .1 .1 .1 .1 .0 .1), n)
+    rw (step-accepted (s .s) (s .y) z, x, back w64 (r .reading-update .result .residual) (c .before .struct-told .given .1 .1 .1 .1 .0 .1), n)
 
 pub step-spec : {M : Type 1} → statement M
 step-spec =
@@ -81,7 +81,7 @@ step-spec =
     rejected-step-requires
     returns
     numbers-of-requires
-    read-requires
+    reading-update-requires
     rejected-step-requires-2
     returns-2
     store-requires

@@ -17,15 +17,15 @@ returns : tie.Need-returns
 unfolding update
 returns c = rw (← (c .before .before .numbers-code .ensures), ne-eqb _ _ (c .before .if1 .taken)) (c .not-updated .ensures)
 
-read-requires : tie.Need-read-requires
-read-requires c κs = numbers-bounded (c .before .before .args .n) (sym (c .before .numbers-code .ensures) ∙ c .if1 .left)
+reading-update-requires : tie.Need-reading-update-requires
+reading-update-requires c κs = numbers-bounded (c .before .before .args .n) (sym (c .before .numbers-code .ensures) ∙ c .if1 .left)
 
 returns-2 : tie.Need-returns-2
 unfolding update
 returns-2 c =
     let i = c .before in
-    rw (← (i .before .numbers-code .ensures), eq-eqb _ _ (i .if1 .left)) (rw (toZ-ofZ (i .before .before .fits .y)) at (c .read .ensures))
+    rw (← (i .before .numbers-code .ensures), eq-eqb _ _ (i .if1 .left)) (rw (toZ-ofZ (i .before .before .fits .y)) at (c .reading-update .ensures))
 
 pub update-spec : {M : Type 1} → statement M
 update-spec =
-    tie.close (tie.spec numbers-code-requires not-updated-requires returns read-requires returns-2)
+    tie.close (tie.spec numbers-code-requires not-updated-requires returns reading-update-requires returns-2)

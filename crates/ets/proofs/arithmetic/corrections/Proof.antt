@@ -12,8 +12,8 @@ use Rattle.state.specs.Fixed.{share}
 use Rattle.state.proofs.Rounding.{share-within}
 use Rattle.ets.specs.Steps.{newLevel, newTrend, newSeason}
 use Rattle.ets.specs.Updates.{corrections}
-use Rattle.ets.proofs.arithmetic.correct.Statement.{statement}
-use Rattle.ets.proofs.arithmetic.correct.Tie as tie
+use Rattle.ets.proofs.arithmetic.corrections.Statement.{statement}
+use Rattle.ets.proofs.arithmetic.corrections.Tie as tie
 
 -- ---- the numbers, over ℤ, and what is read back
 module _ (s : tie.Start) where
@@ -90,7 +90,7 @@ returns c =
       within-back w64 (ws s) (omega arith),
     )
 
-pub correct-spec : {M : Type 1} → statement M
-correct-spec =
+pub corrections-spec : {M : Type 1} → statement M
+corrections-spec =
     tie.close
     (tie.spec add-t3 share-requires add-t5 share-requires-2 add-t7 share-requires-3 add-t9 returns)

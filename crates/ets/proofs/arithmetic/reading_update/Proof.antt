@@ -7,8 +7,8 @@ use Rattle.ets.specs.Steps.{residual}
 use Rattle.ets.specs.Updates.{termsAt, corrections, readingUpdate}
 use Rattle.ets.proofs.UpdateLaws.{terms-in, earlyCode, early-rejects, Early, early-passes}
 use borrow.Author.Needs.{needs}
-use Rattle.ets.proofs.arithmetic.read.Statement.{statement}
-use Rattle.ets.proofs.arithmetic.read.Tie as tie
+use Rattle.ets.proofs.arithmetic.reading_update.Statement.{statement}
+use Rattle.ets.proofs.arithmetic.reading_update.Tie as tie
 
 code : (c : tie.After-early-code) → c .early-code .result ≡ earlyCode (c .before .args .n .count) (c .before .args .y)
 code c = rw (toZ-ofZ (c .before .fits .y)) at (c .early-code .ensures)
@@ -17,11 +17,11 @@ early : (c : tie.Else1) → Early (termsAt (c .before .before .args .n)) (c .bef
 early c = early-passes _ _ _ (sym (code (c .before)) ∙ c .if1 .left)
 
 -- what was computed are the corrections of the arguments themselves
-computed : (c : tie.After-correct) → let s = c .before .before .before .before .before in c .correct .result ≡ corrections (termsAt (s .args .n)) (residual (termsAt (s .args .n)) (s .args .y))
+computed : (c : tie.After-corrections) → let s = c .before .before .before .before .before in c .corrections .result ≡ corrections (termsAt (s .args .n)) (residual (termsAt (s .args .n)) (s .args .y))
 computed c =
     let r = c .before in
     let s = r .before .before .before .before in
-    rw (back w64 (r .residual .result) (r .residual .ok), r .residual .ensures .0, r .before .terms .ensures, toZ-ofZ (s .fits .y)) at (c .correct .ensures)
+    rw (back w64 (r .residual .result) (r .residual .ok), r .residual .ensures .0, r .before .terms-at .ensures, toZ-ofZ (s .fits .y)) at (c .corrections .ensures)
 
 early-code-requires : tie.Need-early-code-requires
 early-code-requires c κs = search needs
@@ -36,18 +36,18 @@ returns c =
     let q : earlyCode (k .before .args .n .count) (k .before .args .y) ≡ 0 → ⊥ = λ z. c .before .if1 .taken (code k ∙ z) in
     rw (early-rejects (termsAt (k .before .args .n)) _ _ q, ← (code k), ne-eqb _ _ (c .before .if1 .taken)) (c .not-updated .ensures)
 
-terms-requires : tie.Need-terms-requires
-terms-requires c κs = search needs
+terms-at-requires : tie.Need-terms-at-requires
+terms-at-requires c κs = search needs
 
 residual-requires : tie.Need-residual-requires
 residual-requires c κs =
     let e = c .before in
-    rw (c .terms .ensures, toZ-ofZ (e .before .before .fits .y)) (terms-in (e .before .before .pre), early e .reading)
+    rw (c .terms-at .ensures, toZ-ofZ (e .before .before .fits .y)) (terms-in (e .before .before .pre), early e .reading)
 
-correct-requires : tie.Need-correct-requires
-correct-requires c κs =
+corrections-requires : tie.Need-corrections-requires
+corrections-requires c κs =
     let e = c .before .before in
-    rw (back w64 (c .residual .result) (c .residual .ok)) (rw (c .before .terms .ensures) (terms-in (e .before .before .pre)), c .residual .ensures .1)
+    rw (back w64 (c .residual .result) (c .residual .ok)) (rw (c .before .terms-at .ensures) (terms-in (e .before .before .pre)), c .residual .ensures .1)
 
 stays-requires : tie.Need-stays-requires
 stays-requires c κs = search needs
@@ -69,16 +69,16 @@ returns-3 c =
     rw (early (k .before .before .before) .later)
     (rw (rw (computed k) at (sym (c .before .before .stays .ensures) ∙ c .before .if2 .left)) (c .not-updated2 .ensures))
 
-pub read-spec : {M : Type 1} → statement M
-read-spec =
+pub reading-update-spec : {M : Type 1} → statement M
+reading-update-spec =
     tie.close
     (tie.spec
     early-code-requires
     not-updated-requires
     returns
-    terms-requires
+    terms-at-requires
     residual-requires
-    correct-requires
+    corrections-requires
     stays-requires
     not-updated-requires-2
     returns-2
