@@ -2,9 +2,7 @@
 use Prim.Native.Nat.{ℕ}
 use mathlib.Core.List.{List}
 use lib.IntN.{ℤ}
-use lib.ListN.{length}
 use Rattle.state.specs.Rejections.{_then_, accepting, outcomeCode}
-use Rattle.state.specs.declared.State.{State}
 use Rattle.ets.specs.Batches.{batch, batchLevels}
 use Rattle.ets.specs.Forecasts.{forecastsCode, forecastCells}
 use Rattle.snapshot.specs.Snapshots.{decoded}

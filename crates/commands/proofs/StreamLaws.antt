@@ -9,15 +9,14 @@ use native.Mathlib.Omega.{arith}
 use borrow.Author.Tests.{eqb-true, leb-true, leb-false, lt-leb}
 use lib.Dec.{eqb, leb, eqb·suc-zero}
 use lib.IntN.{ℤ}
-use lib.ListN.{length, length-drop, length-set, length-replicate, take, drop, getD, set, replicate}
+use lib.ListN.{length, length-drop, length-replicate, take, drop, getD, replicate}
 use lib.Seq.{sets, sets-eq, take-at, take-length}
 use Rattle.state.specs.Rejections.{unless, _then_, outcome, answer, input-too-long, out-of-place, truncated, unknown-command, short-buffer}
-use Rattle.state.specs.Models.{hasSeason}
 use Rattle.state.specs.States.{check}
 use Rattle.state.specs.declared.State.{State}
 use Rattle.state.specs.declared.Outcome.{Outcome}
 use Rattle.state.specs.declared.Outcome.the-variants as outcome-of
-use Rattle.state.proofs.Tests.{both, then-zero, unless-zero}
+use Rattle.state.proofs.Tests.{cond-elim, both, then-zero, unless-zero}
 use Rattle.ets.specs.Steps.{step, stepCode, residualOf, missing, missingCode}
 use Rattle.ets.specs.Forecasts.{forecastTo, forecastCode, forecastOf}
 use Rattle.ets.proofs.Kept.{cells-kept, reading-kept, missing-kept}
@@ -44,11 +43,6 @@ use Rattle.commands.specs.declared.decoding.Decoded.{Decoded}
 use Rattle.commands.specs.declared.decoding.Command.{Command}
 use Rattle.commands.specs.declared.decoding.Command.the-variants as command-of
 use Rattle.commands.proofs.CommandLaws.{snapshot-most, performs, opened-rejected, inside}
-
--- ---- what holds on both sides of a test holds of it
-pick : {A : Type 0} (P : A → Type 0) (b : Bool) (p q : A) → (b ≡ true → P p) → (b ≡ false → P q) → P (cond b p q)
-pick P true p q f g = f refl
-pick P false p q f g = g refl
 
 module _ (P : Performed → Type 0) where
   on-outcome : (code : ℕ) (a : Performed) (r : ℕ → Performed) → (code ≡ 0 → P a) → ((n : ℕ) → P (r n)) → P (byOutcome (outcome code) a r)
@@ -120,7 +114,7 @@ module _ (s : List ℕ) (x : Session) (d : List ℕ) where
   unfolding openSnapshot read lineOf fieldsBytes
   open-goes h =
       let t = drop (x .at) s in
-      pick (Goes s x d) (eqb (openCode t) 0) _ _
+      cond-elim (Goes s x d) (eqb (openCode t) 0) _ _
       (λ q. let z = eqb-true (openCode t) 0 q in let k = accepted-size t z in
       goes _ _ _ (omega arith) (omega (arith, length-drop (x .at) s)) (λ _. rw z (record { checked = accepted-passes t z; cells = length-decoded t })) (omega arith) refl)
       (λ _. stays _ _)
@@ -183,19 +177,19 @@ module _ (s : List ℕ) (x : Session) (d : List ℕ) where
       let k : to ≤ length s = omega arith in
       let open-state : eqb b 0x10 ≡ false → Sound x → Passes (x .state) = λ q p. p .passes (active-is (x .active) (eqb b 0x10) due q) in
       let P : Command → Type 0 = λ c. After (record { command = c; next = to }) in
-      pick P (eqb b 0x10) _ _ (λ _. open-goes s x d h)
-      (λ q. pick P (eqb b 0x20) _ _ (λ _. reading-goes s x d to l k (open-state q) _)
-      (λ _. pick P (eqb b 0x21) _ _ (λ _. missing-goes s x d to l k (open-state q))
-      (λ _. pick P (eqb b 0x30) _ _ (λ _. forecast-goes s x d to l k (open-state q) _)
-      (λ _. pick P (eqb b 0x31) _ _ (λ _. variance-goes s x d to l k (open-state q) _ _)
+      cond-elim P (eqb b 0x10) _ _ (λ _. open-goes s x d h)
+      (λ q. cond-elim P (eqb b 0x20) _ _ (λ _. reading-goes s x d to l k (open-state q) _)
+      (λ _. cond-elim P (eqb b 0x21) _ _ (λ _. missing-goes s x d to l k (open-state q))
+      (λ _. cond-elim P (eqb b 0x30) _ _ (λ _. forecast-goes s x d to l k (open-state q) _)
+      (λ _. cond-elim P (eqb b 0x31) _ _ (λ _. variance-goes s x d to l k (open-state q) _ _)
       (λ _. save-goes s x d to l k (open-state q))))))
 
   pub perform-goes : Goes s x (performBytes s x d) (perform s x (length d))
   unfolding perform performBytes decode
   perform-goes =
-      pick After (leb (length s) (x .at)) _ _ (λ _. finish-goes s x d)
+      cond-elim After (leb (length s) (x .at)) _ _ (λ _. finish-goes s x d)
       (λ q. let h = leb-false (length s) (x .at) q in
-      pick After (eqb (commandCode s (x .at) (x .active)) 0) _ _ (λ e. operands-go h (eqb-true _ 0 e)) (λ _. stays s x d _ _))
+      cond-elim After (eqb (commandCode s (x .at) (x .active)) 0) _ _ (λ e. operands-go h (eqb-true _ 0 e)) (λ _. stays s x d _ _))
 
 -- one command of the program's stream
 pub next-goes : (s : List ℕ) (x : Session) → Goes s x (performBytes s x (replicate snapshotRoom 0)) (next s x)
@@ -286,7 +280,7 @@ ends (suc n) s x h =
 ends-once : (s : List ℕ) → EndsOnce (answers s)
 unfolding answers answersFrom admit
 ends-once s =
-    pick (λ (o : Outcome). EndsOnce (answersOf o s)) (eqb (unless (leb (length s) inputLimit) input-too-long) 0) _ _
+    cond-elim (λ (o : Outcome). EndsOnce (answersOf o s)) (eqb (unless (leb (length s) inputLimit) input-too-long) 0) _ _
     (λ _. ends (suc (length s - start .at)) s start (omega arith)) (λ _. refl)
 
 pub answers-laws : Answers

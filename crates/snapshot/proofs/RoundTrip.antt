@@ -1,13 +1,13 @@
 -- Both round trips of a snapshot: reading what was saved gives the state back, and saving what was read writes the same bytes.
-use Prim.Native.Nat.{ℕ, zero, suc, _+_, _*_, _/_, _%_, _≤_, _<_}
+use Prim.Native.Nat.{ℕ, zero, suc, _+_, _*_, _≤_, _<_}
 use mathlib.Core.Path.{_≡_, refl, sym, ap, _∙_}
-use mathlib.Core.Bool.{Bool, true, false, not, cond}
+use mathlib.Core.Bool.{Bool, true, false, cond}
 use mathlib.Core.Logic.{⊎-elim}
 use mathlib.Core.List.{List, _∷_, _++_, append-assoc}
 use native.Mathlib.Nat.{le-refl, zero-add, add-zero, le-of-suc-le-suc, eq-or-lt-of-le, not-suc-le-zero, lt-of-le-of-lt}
 use native.Mathlib.Omega.{arith}
-use borrow.Author.Tests.{eqb-true, ltb-true, ltb-false, le-leb, lt-ltb, ne-eqb}
-use lib.Dec.{lit<, eqb, ltb}
+use borrow.Author.Tests.{ltb-true, ltb-false, le-leb, lt-ltb, ne-eqb}
+use lib.Dec.{lit<, ltb}
 use lib.IntN.{ℤ, pos}
 use lib.ListN.{length, length-append, length-set, getD-replicate, take, drop, getD}
 use lib.Seq.{getD-drop, drop-drop, drop-at, take-at, drop-cons, length-take-le, take-all, ext-getD, getD-set-same, getD-set-other, take-add, sets, sets-eq}
@@ -16,7 +16,6 @@ use mir.Val.{SFits, ofZ}
 use Rattle.integers.specs.Bounds.{Within}
 use Rattle.integers.proofs.Bounds.{within-fits}
 use Rattle.state.specs.Fixed.{inRange, isZero}
-use Rattle.state.specs.Models.{validModel}
 use Rattle.state.specs.States.{check, cellOk}
 use Rattle.state.specs.declared.State.{State}
 use Rattle.state.proofs.Tests.{both, model-again, allBelow-at, allBelow-all, zero-is}

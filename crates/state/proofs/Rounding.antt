@@ -8,6 +8,7 @@ use Rattle.integers.specs.Bounds.{Within}
 use Rattle.integers.proofs.Bounds.{zs, within-mul}
 use Rattle.integers.proofs.Difference.{diff, ints, known, sum, product}
 use Rattle.state.specs.Fixed.{R, share, shareNat}
+use Rattle.state.specs.Rounding.{Rounding}
 
 -- the shift that rounds down
 shr-low : (u : ℤ) → (pos 65536 *ℤ shrZ u 65536) ≤ℤ u
@@ -75,6 +76,9 @@ bounded n v r = rw (known v, known r) (simp zs (omega arith))
 
 pub R-within : {n : ℕ} {v : ℤ} → Within (65536 * n) v → Within n (R v)
 R-within {n} {v} h = bounded n v (R v) (R-low v) (R-high v) h
+
+pub rounding : Rounding
+rounding = record { low = R-low; greatest = R-greatest; error = R-error; whole = R-whole; mono = λ v w h. R-mono h }
 
 -- ---- a share
 pub share-error : (a : ℕ) (e : ℤ) → Within 65536 (pos 2 *ℤ (pos 65536 *ℤ share a e -ℤ pos a *ℤ e))

@@ -19,9 +19,9 @@ use Rattle.state.specs.Models.{modelByte, validModel}
 use Rattle.state.specs.States.{allBelow}
 
 -- a choice by its two cases
-pub cond-elim : {A : Type 0} (P : A → Type 0) (b : Bool) {p q : A} → (b ≡ true → P p) → (b ≡ false → P q) → P (cond b p q)
-cond-elim P true h k = h refl
-cond-elim P false h k = k refl
+pub cond-elim : {A : Type 0} (P : A → Type 0) (b : Bool) (p q : A) → (b ≡ true → P p) → (b ≡ false → P q) → P (cond b p q)
+cond-elim P true p q h k = h refl
+cond-elim P false p q h k = k refl
 
 -- both of two tests
 pub both : (a b : Bool) → (a && b) ≡ true → (a ≡ true) × (b ≡ true)

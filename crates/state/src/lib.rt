@@ -4,6 +4,7 @@ pub mod models;
 
 ghost use mathlib.Core.Path.{_≡_};
 ghost use Rattle.state.specs.Rejections.{unless, _then_, outcomeCode};
+ghost use Rattle.state.specs.Rounding.{Rounding};
 ghost use Rattle.state.specs.States.{noState};
 
 // The numbers of document 01's refusals.
@@ -121,3 +122,8 @@ pub fn code_of(done: Outcome) -> u8
         Outcome::Rejected(n) => n,
     }
 }
+
+// A promise: what R is.
+pub fn rounding_laws()
+    ensures { λ _. ⌜ Rounding ⌝ }
+{}

@@ -13,9 +13,9 @@ use Rattle.state.specs.States.{check}
 use Rattle.state.specs.declared.State.{State}
 use Rattle.state.proofs.Answers.{outcome-code, answer-code}
 use Rattle.state.proofs.Tests.{then-zero}
-use Rattle.ets.specs.Steps.{stepCode, missingCode, residualOf, newSeason, newSeasonal, afterReading, afterMissing, step, missing}
+use Rattle.ets.specs.Steps.{stepCode, missingCode, residualOf, afterReading, afterMissing, step, missing}
 use Rattle.ets.specs.Batches.{batchRun, batch, batchLevels}
-use Rattle.ets.specs.Forecasts.{forecastCode, forecastOf, forecast, forecastList, forecastsCode, forecasts, forecastCells, forecastTo, forecastCellsTo, forecastsTo}
+use Rattle.ets.specs.Forecasts.{forecastCode, forecastOf, forecast, forecastList, forecastsCode, forecastCells, forecastTo, forecastCellsTo, forecastsTo}
 use Rattle.ets.proofs.ForecastLaws.{list-length}
 use Rattle.ets.proofs.Kept.{cells-kept, reading-kept, missing-kept}
 use Rattle.snapshot.specs.Snapshots.{encoded, decoded}

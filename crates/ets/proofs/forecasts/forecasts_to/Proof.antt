@@ -2,7 +2,7 @@ use mathlib.Core.Path.{_≡_, refl, sym, _∙_}
 use native.Mathlib.Omega.{arith}
 use lib.ListN.{length}
 use borrow.Author.Needs.{needs}
-use borrow.Author.Tests.{eq-eqb, ne-eqb, leb-true}
+use borrow.Author.Tests.{ne-eqb, leb-true}
 use Rattle.state.proofs.Passing.{valid}
 use Rattle.state.proofs.Tests.{then-zero, unless-zero}
 use Rattle.ets.specs.Forecasts.{forecastsCodeTo, forecastsTo, forecastCellsTo}

@@ -1,4 +1,4 @@
-use mathlib.Core.Path.{_≡_, sym, _∙_}
+use mathlib.Core.Path.{sym, _∙_}
 use Rattle.snapshot.proofs.Accepting.{accepted-room}
 use Rattle.snapshot.proofs.InPlaceSteps.{one-snapshot, held}
 use borrow.Author.Needs.{needs}

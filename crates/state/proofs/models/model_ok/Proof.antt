@@ -1,4 +1,3 @@
-use native.Mathlib.Omega.{arith}
 use Rattle.state.proofs.Tests.{model-law}
 use borrow.Author.Needs.{needs}
 use Rattle.state.proofs.models.model_ok.Statement.{statement}
