@@ -1,25 +1,27 @@
 """Calls that no stream reaches, for the program `calls`: states handed in directly, batches, all horizons, weights, short
 slices, groups read from a slice. Nothing here is random.
 
-The program keeps one state and reads records of one shape: an operation's byte, two numbers x and y of 64 bits, a length of
-16 bits, and that many bytes; low byte first, signed numbers in two's complement.
+The program reads records and writes a line for each. A record is an operation's byte, the state that the call is made on
+(none where a group is read), and the call's operands; low byte first, signed numbers in two's complement, lengths of 32 bits.
 
-    0 clear        the state is all 0
-    1 set          the field x % 256 becomes y: 0 model, 1 m, 2 A, 3 B, 4 G, 5 F, 6 l, 7 b, 8 p, 9 count, 10 season cell x / 256
-    2 check        the state's refusal, or 0
-    3 step         with the reading y
+    1 read         a length and as many bytes, with a group at their start
+    2 check
+    3 step         with a reading of 32 bits
     4 missing
-    5 batch        of the 32-bit readings in the bytes, into x cells
-    6 forecast     for horizon x
-    7 forecasts    for horizon x, into y cells
-    8 weight       of horizon x
-    9 variance     of horizon x, with y for the residuals' variance
-    10 save        into x byte cells
-    11 read        a group at the start of the bytes: the refusal or 0, how many bytes are left, the rest, and the state (after a refusal
-                   the rest begins with the refused command, and the state is one that every check refuses)
-    12 keep        the state that the last step, missing, batch or read handed back
+    5 batch        a length of the cells lent, a length and as many readings of 32 bits
+    6 forecast     for a horizon of 32 bits
+    7 forecasts    for a horizon, and a length of the cells lent
+    8 weight       of a horizon
+    9 variance     of a horizon, with 32 bits for the residuals' variance
+    10 save        a length of the byte cells lent
 
-Cells start as 77, so that what a call leaves untouched is seen.
+A state is a length and as many season cells of 64 bits, the others being 0; model and m, a byte each; A, B, G, F of 32 bits;
+l and b of 64 bits; p, a byte; count, of 64 bits.
+
+A line is the operation, the refusal or 0, and what the call gives, each number before a blank; bytes are hexadecimal, and stand
+last. A step, a missing reading, a batch and a read give a state, with all its season cells after the count; a save gives the
+bytes that the state needs or its refusal; a read gives, after the state, the refusal once more and the rest of the bytes, which
+after a refusal begins with the refused command. Cells lent start as 77, so that what a call leaves untouched is seen.
 """
 
 from dataclasses import replace
@@ -28,8 +30,31 @@ import forecaster as f
 from forecaster import State
 from streams import C, COUNTS, MODELS, PARAMETERS, V, VALUES, WORD32, cells, nominal
 
-FIELDS = ["model", "m", "A", "B", "G", "F", "l", "b", "p", "count"]
+READ, CHECK, STEP, MISSING, BATCH, FORECAST, FORECASTS, WEIGHT, VARIANCE, SAVE = range(1, 11)
 UNTOUCHED = 77
+
+
+def numbers(size, *values):
+    """The numbers in so many bytes each."""
+    return b"".join((v % 256**size).to_bytes(size, "little") for v in values)
+
+
+def state_bytes(x):
+    used = max((k + 1 for k, value in enumerate(x.s) if value), default=0)
+    season = numbers(4, used) + numbers(8, *x.s[:used])
+    return season + numbers(1, x.model, x.m) + numbers(4, x.A, x.B, x.G, x.F) + numbers(8, x.l, x.b) + numbers(1, x.p) + numbers(8, x.count)
+
+
+def state_numbers(x):
+    return [x.model, x.m, x.A, x.B, x.G, x.F, x.l, x.b, x.p, x.count, *x.s]
+
+
+def attempted(call):
+    """0 and the numbers that the call gives, or its refusal alone."""
+    try:
+        return [0, *call()]
+    except f.Rejected as r:
+        return [r.code]
 
 
 class Script:
@@ -41,122 +66,80 @@ class Script:
         self.state = State()
         self.last = State()
 
-    def record(self, operation, x=0, y=0, data=b""):
-        word = lambda v: (v % 2**64).to_bytes(8, "little")
-        self.records.append(bytes([operation]) + word(x) + word(y) + len(data).to_bytes(2, "little") + data)
+    def play(self, operation, operands, found, data=b""):
+        """A record of a call on the state, and its line."""
+        self.records.append(numbers(1, operation) + state_bytes(self.state) + operands)
+        self.line(operation, found, data)
 
-    def say(self, *words):
-        self.lines.append(" ".join(str(w) for w in words))
-
-    def say_state(self, x):
-        self.last = x
-        found = [x.model, x.m, x.A, x.B, x.G, x.F, x.l, x.b, x.p, x.count]
-        for k, value in enumerate(x.s):
-            found += [k, value] if value else []
-        self.say("state", *found)
+    def line(self, operation, found, data):
+        self.lines.append("".join(f"{n} " for n in [operation, *found]) + data.hex())
 
     def use(self, x):
-        """Makes x the program's state, setting only what differs."""
-        size = lambda a, b: sum(getattr(a, n) != getattr(b, n) for n in FIELDS) + sum(p != q for p, q in zip(a.s, b.s))
-        if size(State(), x) < size(self.state, x):
-            self.record(0)
-            self.state = State()
-        for k, name in enumerate(FIELDS):
-            if getattr(x, name) != getattr(self.state, name):
-                self.record(1, k, getattr(x, name))
-        for k, value in enumerate(x.s):
-            if value != self.state.s[k]:
-                self.record(1, 10 + 256 * k, value)
+        """Makes x the state of the calls that follow."""
         self.state = x
 
     def keep(self):
-        self.record(12)
+        """The calls that follow are made on the state that the last step, missing, batch or read handed back."""
         self.state = self.last
 
-    def attempt(self, name, call):
-        """Prints what the call answers: the numbers in order, or the refusal."""
-        try:
-            self.say(name, *call())
-        except f.Rejected as r:
-            self.say(name, "rejected", r.code)
-            return False
-        return True
-
     def check(self):
-        self.record(2)
-        try:
-            f.check(self.state)
-            self.say("check", 0)
-        except f.Rejected as r:
-            self.say("check", r.code)
+        self.play(CHECK, b"", attempted(lambda: f.check(self.state) or []))
 
     def step(self, y):
-        self.record(3, 0, y)
-        after = self.state
+        self.last = self.state
 
         def call():
-            nonlocal after
-            after, e = f.step(self.state, y)
+            self.last, e = f.step(self.state, y)
             return [e]
 
-        self.attempt("step", call)
-        self.say_state(after)
+        found = attempted(call)
+        self.play(STEP, numbers(4, y), found + state_numbers(self.last))
 
     def missing(self):
-        self.record(4)
-        after = self.state
+        self.last = self.state
 
         def call():
-            nonlocal after
-            after = f.missing(self.state)
-            return ["accepted"]
+            self.last = f.missing(self.state)
+            return []
 
-        self.attempt("missing", call)
-        self.say_state(after)
+        found = attempted(call)
+        self.play(MISSING, b"", found + state_numbers(self.last))
 
     def batch(self, readings, room):
-        self.record(5, room, 0, b"".join((y % 2**32).to_bytes(4, "little") for y in readings))
         filled = [UNTOUCHED] * room
-        after, taken, code = f.batch(self.state, readings, filled)
-        self.say("batch", taken, code)
-        self.say_state(after)
-        self.say("cells", *filled)
+        self.last, taken, code = f.batch(self.state, readings, filled)
+        operands = numbers(4, room, len(readings), *readings)
+        self.play(BATCH, operands, [code, taken, *state_numbers(self.last), *filled])
 
     def forecast(self, h):
-        self.record(6, h)
-        self.attempt("forecast", lambda: [f.forecast(self.state, h)])
+        self.play(FORECAST, numbers(4, h), attempted(lambda: [f.forecast(self.state, h)]))
 
     def forecasts(self, h, room):
-        self.record(7, h, room)
         filled = [UNTOUCHED] * room
-        self.attempt("forecasts", lambda: f.forecasts(self.state, h, filled) or ["accepted"])
-        self.say("cells", *filled)
+        found = attempted(lambda: f.forecasts(self.state, h, filled) or [])
+        self.play(FORECASTS, numbers(4, h, room), found + filled)
 
     def weight(self, h):
-        self.record(8, h)
-        self.attempt("weight", lambda: [f.weight(self.state, h)])
+        self.play(WEIGHT, numbers(4, h), attempted(lambda: [f.weight(self.state, h)]))
 
     def variance(self, h, sigma2):
-        self.record(9, h, sigma2)
-        self.attempt("variance", lambda: f.variance(self.state, h, sigma2))
+        self.play(VARIANCE, numbers(4, h, sigma2), attempted(lambda: f.variance(self.state, h, sigma2)))
 
     def save(self, room):
-        self.record(10, room)
         filled = bytearray([UNTOUCHED] * room)
-        self.attempt("save", lambda: [f.save(self.state, filled)])
-        self.say("bytes", bytes(filled).hex())
+        found = attempted(lambda: [f.save(self.state, filled)])
+        needed = attempted(lambda: [f.save(self.state, bytearray(600))])
+        self.play(SAVE, numbers(4, room), [found[0], needed[-1]], bytes(filled))
 
     def read(self, data):
-        self.record(11, 0, 0, data)
-        kept, code = self.last, 0
+        code = 0
         try:
             x, used = f.read_group(data)
+            self.last = x
         except f.Rejected as r:
             x, used, code = State(model=255), r.offset, r.code
-        self.say("read", code, len(data) - used)
-        self.say("rest", data[used:].hex())
-        self.say_state(x)
-        self.last = kept if code else x
+        self.records.append(numbers(1, READ) + numbers(4, len(data)) + data)
+        self.line(READ, [code, *state_numbers(x), code], data[used:])
 
     def everything(self):
         """Each call on the state, with operands that would pass."""

@@ -1,11 +1,15 @@
-// The calls, and what each answers. A call that hands a state back prints it.
-use super::numbers::signed32;
-use super::numbers::unsigned32;
-use super::printing::end_line;
+// The calls, and what each answers: a rejection's number or 0, and then what the call gives.
+use super::input::fill_readings;
+use super::input::first_bytes;
+use super::input::first_readings;
+use super::input::first_values;
+use super::input::next_i32;
+use super::input::next_size;
+use super::input::next_state;
+use super::input::next_u32;
 use super::printing::print_bytes;
+use super::printing::print_code;
 use super::printing::print_number;
-use super::printing::print_outcome;
-use super::printing::print_rejected;
 use super::printing::print_signed;
 use super::printing::print_state;
 use super::printing::print_values;
@@ -14,6 +18,8 @@ use ets::forecasts::forecast;
 use ets::forecasts::forecasts;
 use ets::steps::missing;
 use ets::steps::step;
+use libc::STDIN_FILENO;
+use libc::STDOUT_FILENO;
 use snapshot::Length;
 use snapshot::bytes_needed;
 use snapshot::read;
@@ -28,215 +34,139 @@ use weights::Weight;
 use weights::variances::variance;
 use weights::variances::weight;
 
+fn print_outcome(outcome: Outcome) {
+    match outcome {
+        Outcome::Accepted => print_code(0),
+        Outcome::Rejected(code) => print_code(code),
+    }
+}
+
 fn print_answer(answer: Answer) {
     match answer {
-        Answer::Accepted(v) => print_signed(v),
-        Answer::Rejected(code) => print_rejected(code),
+        Answer::Accepted(v) => {
+            print_code(0);
+            print_signed(v);
+        }
+        Answer::Rejected(code) => print_code(code),
     }
 }
 
-fn call_check(s: State) {
-    io::write_all(1, b"check");
-    print_number(check(s) as u64);
-    end_line();
-}
-
-fn call_step(s: State, y: i32) -> State {
-    let r = step(s, y);
-    let residual = r.residual;
-    let next = r.state;
-    io::write_all(1, b"step");
-    print_answer(residual);
-    end_line();
-    print_state(next);
-    next
-}
-
-fn call_missing(s: State) -> State {
-    let r = missing(s);
-    let outcome = r.outcome;
-    let next = r.state;
-    io::write_all(1, b"missing");
-    print_outcome(outcome);
-    end_line();
-    print_state(next);
-    next
-}
-
-fn code_of(outcome: Outcome) -> u8 {
-    match outcome {
-        Outcome::Accepted => 0,
-        Outcome::Rejected(code) => code,
-    }
-}
-
-// The readings of a record's bytes, as many as the slice has room for.
-fn readings_of(data: &[u8], readings: &mut [i32]) {
-    let mut i = 0;
-    while i < readings.len() {
-        readings[i] = if i < 256 {
-            signed32(unsigned32(data, 4 * i))
-        } else {
-            0
-        };
-        i += 1;
-    }
-}
-
-// The batch of the first n readings into the first cells, as many as there is room for.
-fn run_batch(s: State, readings: &[i32], n: usize, cells: &mut [i64], room: usize) -> State {
-    if readings.len() < n {
-        return s;
-    }
-    if cells.len() < room {
-        return s;
-    }
-    let r = batch(s, &readings[..n], &mut cells[..room]);
-    let outcome = r.outcome;
-    let next = r.state;
-    io::write_all(1, b"batch");
-    print_number(r.taken as u64);
-    print_number(code_of(outcome) as u64);
-    end_line();
-    print_state(next);
-    io::write_all(1, b"cells");
-    print_values(&cells[..room]);
-    end_line();
-    next
-}
-
-fn call_batch(s: State, data: &[u8], room: usize) -> State {
-    let mut readings = [0i32; 256];
-    readings_of(data, &mut readings);
-    let mut cells = [77i64; 520];
-    run_batch(s, &readings, data.len() / 4, &mut cells, room)
-}
-
-fn call_forecast(s: State, h: u32) {
-    io::write_all(1, b"forecast");
-    print_answer(forecast(s, h));
-    end_line();
-}
-
-fn run_forecasts(s: State, h: u32, cells: &mut [i64], room: usize) {
-    if cells.len() < room {
-        return;
-    }
-    let outcome = forecasts(s, h, &mut cells[..room]);
-    io::write_all(1, b"forecasts");
-    print_outcome(outcome);
-    end_line();
-    io::write_all(1, b"cells");
-    print_values(&cells[..room]);
-    end_line();
-}
-
-fn call_forecasts(s: State, h: u32, room: usize) {
-    let mut cells = [77i64; 520];
-    run_forecasts(s, h, &mut cells, room);
-}
-
-fn call_weight(s: State, h: u32) {
-    io::write_all(1, b"weight");
-    let w = weight(s, h);
+fn print_weight(w: Weight) {
     match w {
-        Weight::Accepted(n) => print_number(n),
-        Weight::Rejected(code) => print_rejected(code),
+        Weight::Accepted(n) => {
+            print_code(0);
+            print_number(n);
+        }
+        Weight::Rejected(code) => print_code(code),
     }
-    end_line();
 }
 
-fn call_variance(s: State, h: u32, sigma2: u32) {
-    io::write_all(1, b"variance");
-    let v = variance(s, h, sigma2);
+fn print_variance(v: Variance) {
     match v {
         Variance::Accepted { high, low } => {
+            print_code(0);
             print_number(high);
             print_number(low);
         }
-        Variance::Rejected(code) => print_rejected(code),
-    }
-    end_line();
-}
-
-// The bytes that a state's snapshot has, 0 where the state is rejected.
-fn size_of(s: State) -> u64 {
-    let n = bytes_needed(s);
-    match n {
-        Length::Bytes(k) => k as u64,
-        Length::Rejected(_) => 0,
+        Variance::Rejected(code) => print_code(code),
     }
 }
 
-fn run_save(s: State, cells: &mut [u8], room: usize) {
-    if cells.len() < room {
-        return;
+fn print_length(length: Length) {
+    match length {
+        Length::Bytes(n) => print_number(n as u64),
+        Length::Rejected(code) => print_code(code),
     }
-    let outcome = save(s, &mut cells[..room]);
-    io::write_all(1, b"save");
-    match outcome {
-        Outcome::Accepted => print_number(size_of(s)),
-        Outcome::Rejected(code) => print_rejected(code),
-    }
-    end_line();
-    io::write_all(1, b"bytes");
-    print_bytes(&cells[..room]);
-    end_line();
 }
 
-fn call_save(s: State, room: usize) {
+fn play_step(s: State, y: i32) {
+    let r = step(s, y);
+    let residual = r.residual;
+    print_answer(residual);
+    print_state(r.state);
+}
+
+fn play_missing(s: State) {
+    let r = missing(s);
+    let outcome = r.outcome;
+    print_outcome(outcome);
+    print_state(r.state);
+}
+
+// Cells start as 77, so that what a call leaves untouched is seen.
+fn play_batch(s: State) {
+    let mut cells = [77i64; 520];
+    let levels = first_values(&mut cells, next_size());
+    let mut space = [0i32; 256];
+    let readings = first_readings(&mut space, next_size());
+    fill_readings(readings);
+    let r = batch(s, readings, levels);
+    let outcome = r.outcome;
+    print_outcome(outcome);
+    print_number(r.taken as u64);
+    print_state(r.state);
+    print_values(levels);
+}
+
+fn play_forecasts(s: State) {
+    let h = next_u32();
+    let mut cells = [77i64; 520];
+    let values = first_values(&mut cells, next_size());
+    print_outcome(forecasts(s, h, values));
+    print_values(values);
+}
+
+fn play_save(s: State) {
     let mut cells = [77u8; 1024];
-    run_save(s, &mut cells, room);
+    let bytes = first_bytes(&mut cells, next_size());
+    print_outcome(save(s, bytes));
+    print_length(bytes_needed(s));
+    print_bytes(bytes);
 }
 
-// Prints what the reader of snapshots gives: the rejection or 0, the bytes before the rest, the state, and the rest.
-fn call_read(last: State, data: &[u8]) -> State {
+fn play_rest(data: &[u8]) {
     let mut code = 0u8;
     let left = rest(data, &mut code);
-    io::write_all(1, b"read");
-    print_number(code as u64);
-    print_number(left.len() as u64);
-    end_line();
-    io::write_all(1, b"rest");
+    print_code(code);
     print_bytes(left);
-    end_line();
+}
+
+fn play_read() {
+    let mut space = [0u8; 1024];
+    let data = first_bytes(&mut space, next_size());
+    io::read_full(STDIN_FILENO, data);
     let opened = read(data);
-    let next = opened.state;
-    print_state(next);
-    if code == 0 {
-        return next;
-    }
-    last
+    let outcome = opened.outcome;
+    print_outcome(outcome);
+    print_state(opened.state);
+    play_rest(data);
 }
 
-// The calls that hand no state back.
-fn ask(s: State, operation: u8, x: u64, y: u64) {
-    let h = (x % 4294967296) as u32;
+// The calls on a state.
+fn play_call(operation: u8, s: State) {
     match operation {
-        2 => call_check(s),
-        6 => call_forecast(s, h),
-        7 => call_forecasts(s, h, (y % 65536) as usize),
-        8 => call_weight(s, h),
-        9 => call_variance(s, h, (y % 4294967296) as u32),
-        10 => call_save(s, (x % 65536) as usize),
-        _ => {}
+        2 => print_code(check(s)),
+        3 => play_step(s, next_i32()),
+        4 => play_missing(s),
+        5 => play_batch(s),
+        6 => print_answer(forecast(s, next_u32())),
+        7 => play_forecasts(s),
+        8 => print_weight(weight(s, next_u32())),
+        9 => {
+            let h = next_u32();
+            print_variance(variance(s, h, next_u32()));
+        }
+        _ => play_save(s),
     }
 }
 
-// Makes the call of an operation; the state that it hands back, or the one before.
-pub fn call(s: State, last: State, operation: u8, x: u64, y: u64, data: &[u8]) -> State {
-    if operation == 3 {
-        return call_step(s, signed32(y));
+// A line for each record: its operation, and what the call answers.
+pub fn play(operation: u8) {
+    print_code(operation);
+    if operation == 1 {
+        play_read();
+    } else {
+        play_call(operation, next_state());
     }
-    if operation == 4 {
-        return call_missing(s);
-    }
-    if operation == 5 {
-        return call_batch(s, data, (x % 65536) as usize);
-    }
-    if operation == 11 {
-        return call_read(last, data);
-    }
-    ask(s, operation, x, y);
-    last
+    io::write_all(STDOUT_FILENO, b"\n");
 }

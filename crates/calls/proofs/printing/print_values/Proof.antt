@@ -1,4 +1,4 @@
--- `calls::printing::print_values` meets its contract.
+-- `calls::printing::print_values` is safe and ends.
 -- Assumes nothing.
 use borrow.Author.Needs.{needs}
 use Prim.Native.Nat.{_≤_, _-_}
@@ -12,41 +12,17 @@ Inv-loop values i₀ i = i ≤ length values
 abbrev μ-loop : tie.MeasureT-loop
 μ-loop values i₀ i = length values - i
 
-loop-holds : tie.Need-loop-holds Inv-loop μ-loop
-loop-holds c = search needs
-
-mul-print-signed : tie.Need-mul-print-signed Inv-loop μ-loop
-mul-print-signed c = search needs
-
-shared-slice-copy-out-print-signed : tie.Need-shared-slice-copy-out-print-signed Inv-loop μ-loop
-shared-slice-copy-out-print-signed c = search needs
-
-print-signed-requires : tie.Need-print-signed-requires Inv-loop μ-loop
-print-signed-requires c κs = search needs
-
-add-i : tie.Need-add-i Inv-loop μ-loop
-add-i c = search needs
-
-loop-less : tie.Need-loop-less Inv-loop μ-loop
-loop-less c = search needs
-
-loop-again : tie.Need-loop-again Inv-loop μ-loop
-loop-again c = search needs
-
-returns : tie.Need-returns Inv-loop μ-loop
-returns c = search needs
-
 pub print-values-spec : {M : Type 1} → statement M
 print-values-spec =
     tie.close
     (tie.spec
     Inv-loop
     μ-loop
-    loop-holds
-    mul-print-signed
-    shared-slice-copy-out-print-signed
-    print-signed-requires
-    add-i
-    loop-less
-    loop-again
-    returns)
+    (λ c. search needs)
+    (λ c. search needs)
+    (λ c. search needs)
+    (λ c κs. search needs)
+    (λ c. search needs)
+    (λ c. search needs)
+    (λ c. search needs)
+    (λ c. search needs))

@@ -1,0 +1,119 @@
+// The numbers of the records, one after the other, low byte first; 0 where the input has ended.
+use libc::STDIN_FILENO;
+use state::State;
+ghost use Prim.Native.Nat.{_<_};
+
+pub fn next_byte() -> u8 {
+    let mut bytes = [0u8; 1];
+    io::read_full(STDIN_FILENO, &mut bytes);
+    bytes[0]
+}
+
+fn next_wide() -> usize
+    ensures { λ r. ⌜ r < 256 ⌝ }
+{
+    next_byte() as usize
+}
+
+fn next_pair() -> usize
+    ensures { λ r. ⌜ r < 65536 ⌝ }
+{
+    let low = next_wide();
+    low + 256 * next_wide()
+}
+
+// A number of 32 bits, also a length.
+pub fn next_size() -> usize
+    ensures { λ r. ⌜ r < 4294967296 ⌝ }
+{
+    let low = next_pair();
+    low + 65536 * next_pair()
+}
+
+pub fn next_u32() -> u32 {
+    next_size() as u32
+}
+
+pub fn next_u64() -> u64 {
+    let low = next_size();
+    (low + 4294967296 * next_size()) as u64
+}
+
+// Two's complement.
+pub fn next_i32() -> i32 {
+    let n = next_u32();
+    if n < 0x8000_0000 {
+        n as i32
+    } else {
+        !((u32::MAX - n) as i32)
+    }
+}
+
+pub fn next_i64() -> i64 {
+    let n = next_u64();
+    if n < 0x8000_0000_0000_0000 {
+        n as i64
+    } else {
+        !((u64::MAX - n) as i64)
+    }
+}
+
+// The first elements of a slice, all where it has no more.
+pub fn first_bytes<'a>(bytes: &'a mut [u8], n: usize) -> &'a mut [u8] {
+    if n <= bytes.len() {
+        &mut bytes[..n]
+    } else {
+        bytes
+    }
+}
+
+pub fn first_values<'a>(values: &'a mut [i64], n: usize) -> &'a mut [i64] {
+    if n <= values.len() {
+        &mut values[..n]
+    } else {
+        values
+    }
+}
+
+pub fn first_readings<'a>(readings: &'a mut [i32], n: usize) -> &'a mut [i32] {
+    if n <= readings.len() {
+        &mut readings[..n]
+    } else {
+        readings
+    }
+}
+
+pub fn fill_values(values: &mut [i64]) {
+    let mut i = 0;
+    while i < values.len() {
+        values[i] = next_i64();
+        i += 1;
+    }
+}
+
+pub fn fill_readings(readings: &mut [i32]) {
+    let mut i = 0;
+    while i < readings.len() {
+        readings[i] = next_i32();
+        i += 1;
+    }
+}
+
+// A state as it stands, whatever its numbers: the season cells of the record, and 0 after them.
+pub fn next_state() -> State {
+    let mut seasonal = [0i64; 48];
+    fill_values(first_values(&mut seasonal, next_size()));
+    State {
+        model: next_byte(),
+        period: next_byte(),
+        alpha: next_u32(),
+        beta: next_u32(),
+        gamma: next_u32(),
+        phi: next_u32(),
+        level: next_i64(),
+        trend: next_i64(),
+        seasonal,
+        index: next_byte(),
+        count: next_u64(),
+    }
+}
