@@ -27,8 +27,8 @@ unfoldable pub allCells : List ℕ → ℕ → List ℤ → List ℤ
 allCells d h cells = accepting (inPlaceCode d) (forecastCells (decoded d) h cells) (λ (n : ℕ). cells)
 
 -- a weight: the number returned, and the lent number, as found where it is rejected
-unfoldable pub lentWeightCode : List ℕ → ℕ → ℕ
-lentWeightCode d h = inPlaceCode d then weightCode (weight (decoded d) h)
+unfoldable pub inPlaceWeightCode : List ℕ → ℕ → ℕ
+inPlaceWeightCode d h = inPlaceCode d then weightCode (weight (decoded d) h)
 
-unfoldable pub lentWeight : List ℕ → ℕ → ℕ → ℕ
-lentWeight d h old = accepting (inPlaceCode d) (weightValue (weight (decoded d) h) old) (λ (n : ℕ). old)
+unfoldable pub inPlaceWeight : List ℕ → ℕ → ℕ → ℕ
+inPlaceWeight d h old = accepting (inPlaceCode d) (weightValue (weight (decoded d) h) old) (λ (n : ℕ). old)

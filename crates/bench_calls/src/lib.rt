@@ -8,7 +8,7 @@ use weights::Weight;
 use weights::variances::weight;
 ghost use mathlib.Core.Path.{_≡_};
 ghost use lib.ListN.{length};
-ghost use Rattle.bench_calls.specs.Snapshots.{batchCode, batchTaken, batchCells, allCode, allCells, lentWeightCode, lentWeight};
+ghost use Rattle.bench_calls.specs.Snapshots.{batchCode, batchTaken, batchCells, allCode, allCells, inPlaceWeightCode, inPlaceWeight};
 
 // The readings taken are told in every case: 0 where a check before the first of them stops the batch.
 #[no_mangle]
@@ -54,8 +54,8 @@ pub extern "C" fn bench_forecasts(snapshot: &[u8], horizon: u32, values: &mut [i
 
 #[no_mangle]
 pub extern "C" fn bench_weight(snapshot: &[u8], horizon: u32, value: &mut u64) -> u8
-    ensures code { λ r. ⌜ r ≡ lentWeightCode (now (snapshot .entry)) horizon ⌝ }
-    ensures number { λ _. ⌜ now (value .exit) ≡ lentWeight (now (snapshot .entry)) horizon (now (value .entry)) ⌝ }
+    ensures code { λ r. ⌜ r ≡ inPlaceWeightCode (now (snapshot .entry)) horizon ⌝ }
+    ensures number { λ _. ⌜ now (value .exit) ≡ inPlaceWeight (now (snapshot .entry)) horizon (now (value .entry)) ⌝ }
 {
     let opened = read(snapshot);
     let outcome = opened.outcome;

@@ -334,6 +334,6 @@ pub last-admitted : (s : List ℕ) → admit s ≡ outcome-of.Accepted → lastR
 unfolding answers
 last-admitted s e = rw e
 
-pub last-refused : (s : List ℕ) (n : ℕ) → admit s ≡ outcome-of.Rejected n → lastReply (answers s) ≡ reply-of.Rejected n 0
+pub last-rejected : (s : List ℕ) (n : ℕ) → admit s ≡ outcome-of.Rejected n → lastReply (answers s) ≡ reply-of.Rejected n 0
 unfolding answers lastReply finalReply
-last-refused s n e = rw e
+last-rejected s n e = rw e

@@ -30,7 +30,7 @@ fn show(whole: bool, line: Line, buffer: &[u8]) -> bool {
 }
 
 // The only line of a stream that is not taken.
-fn refuse(code: u8) -> Reply
+fn reject_stream(code: u8) -> Reply
     ensures { λ r. ⌜ r ≡ Reply.Rejected code 0 ⌝ }
 {
     let reply = Reply::Rejected { code, offset: 0 };
@@ -67,6 +67,6 @@ pub fn play(s: &[u8]) -> Reply
     let admitted = admit(s);
     match admitted {
         Outcome::Accepted => play_commands(s),
-        Outcome::Rejected(code) => refuse(code),
+        Outcome::Rejected(code) => reject_stream(code),
     }
 }

@@ -28,9 +28,9 @@ use Rattle.drift.proofs.Drift.{demand3}
 first : {c : Parameters} {z : ℤ} {e : Expected} {zs : List ℤ} {es : List Expected} → EachWithin c (z ∷ zs) (e ∷ es) → WithinLimit c z e
 first (more h u) = h
 
-place-refused : (k : ℕ) → k < 48 → ClaimOf (seasonal 48 32768 32768 (pos 0) []) (standing (pos 0) 0 k (pos 1)) [] → ⊥
+index-refused : (k : ℕ) → k < 48 → ClaimOf (seasonal 48 32768 32768 (pos 0) []) (standing (pos 0) 0 k (pos 1)) [] → ⊥
 unfolding Claim AtMost
-place-refused k l h =
+index-refused k l h =
     le→leb 2 0 (rw (getD-replicate 48 k (pos 0) (pos 0) l, eq-eqb k k refl) at (h .seasons k (omega arith)))
 
 refused : Refused
@@ -39,7 +39,7 @@ refused =
     record {
       level-one = λ h. le→leb _ _ (h .level);
       level-three = λ h. le→leb _ _ (h .level);
-      places = place-refused;
+      places = index-refused;
       cell = λ h. le→leb _ _ (first (h .0));
       forecast = λ h. le→leb _ _ (first (h .0) refl .0 refl);
       forecasts = λ h. le→leb _ _ (first (h .0) refl .0 refl);

@@ -78,7 +78,7 @@ inv-step K A B G C m Kn p δ τ δ′ τ′ e f hp lo hi i =
       grain = grain′ (i .M) (i .s) (i .grain);
       lvl = omega arith;
       sea = λ k. omega arith;
-      place = place′ (i .q) (i .place);
+      place = season′ (i .q) (i .place);
       below = low-step K A B G C (i .M) m p e f hp (i .d) (i .t) (scaleD (i .s) δ′) (λ k. scaleD (i .s) (τ′ k)) (scale-down K A B G C Kn (i .M) (i .s) p δ τ δ′ τ′ (i .d) (i .t) (i .grain) (i .lvl) (i .sea) lo) (i .x) (i .a) (i .below);
       above = low-step K A B G C (i .M) m p e f hp (negD (i .d)) (negs (i .t)) (negD (scaleD (i .s) δ′)) (λ k. negD (scaleD (i .s) (τ′ k))) (scale-down K A B G C Kn (i .M) (i .s) p (negD δ) (negs τ) (negD δ′) (negs τ′) (negD (i .d)) (negs (i .t)) (i .grain) (turn (i .d) (scaleD (i .s) δ) (i .lvl)) (λ k. turn (i .t k) (scaleD (i .s) (τ k)) (i .sea k)) hi) (i .y) (i .b) (i .above);
       sum = sum-scaled K (i .x) (i .y) (i .w) (i .sum);
@@ -89,8 +89,8 @@ inv-step K A B G C m Kn p δ τ δ′ τ′ e f hp lo hi i =
     grain′ : (M s : ℕ) → M ≡ s * Kn → K * M ≡ s * (K * Kn)
     grain′ M s g = omega (arith, ap (λ (z : ℕ). K * z) g)
 
-    place′ : (q : ℕ) → p + q ≡ m → suc p + (q - 1) ≡ m
-    place′ q h = omega arith
+    season′ : (q : ℕ) → p + q ≡ m → suc p + (q - 1) ≡ m
+    season′ q h = omega arith
 
     left : (q : ℕ) → p + q ≡ m → q ≡ suc (q - 1)
     left q h = omega arith

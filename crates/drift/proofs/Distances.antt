@@ -16,7 +16,7 @@ use Rattle.drift.proofs.Averages.{D, zeroD, Same}
 use Rattle.drift.proofs.Spread.{spread-up, spread-down, more}
 use Rattle.drift.proofs.Errors.{parts, addD, err, Both}
 use Rattle.state.proofs.Passing.{no-trend, with-season}
-use Rattle.drift.proofs.Readings.{power, valueAt, levelErr, placeErr}
+use Rattle.drift.proofs.Readings.{power, valueAt, levelErr, seasonErr}
 use Rattle.drift.proofs.ForecastErrors.{flat-line}
 use Rattle.drift.proofs.Invariant.{Good}
 use Rattle.drift.specs.Exact.{Parameters, parametersOf, Exact, exactTrendAt, exactLine, exactForecast, expectedForecast}
@@ -164,8 +164,8 @@ module _ (s : State) (x : Exact) (h : ℕ) (w : Good (parametersOf s) s x) where
   of-season ss g a z =
       within (s .period * c + 2 * j) c (2 * x .n) f F (up′, dn′)
       (seasonal (hasSeason (s .model)) (power x) (valueAt s at) (x .S at) (err (power x) (parts f) (parts F)) (levelErr s x) ss error)
-      (more (c * up′) (c * dn′) (s .period) c j (power x) (narrow (s .gamma) (65536 - s .alpha) (s .period) (power x) up′ dn′ (spread-up 4294967296 (65536 * (65536 - s .alpha)) (65536 * s .gamma) (s .period) (power x) (s .index) (omega arith) (le-of-lt lt) (levelErr s x) (placeErr s x) (w .cycle ss a g z) at (mod-lt (s .index + h - 1) some))))
-      (more (c * dn′) (c * up′) (s .period) c j (power x) (narrow (s .gamma) (65536 - s .alpha) (s .period) (power x) dn′ up′ (spread-down 4294967296 (65536 * (65536 - s .alpha)) (65536 * s .gamma) (s .period) (power x) (s .index) (omega arith) (le-of-lt lt) (levelErr s x) (placeErr s x) (w .cycle ss a g z) at (mod-lt (s .index + h - 1) some))))
+      (more (c * up′) (c * dn′) (s .period) c j (power x) (narrow (s .gamma) (65536 - s .alpha) (s .period) (power x) up′ dn′ (spread-up 4294967296 (65536 * (65536 - s .alpha)) (65536 * s .gamma) (s .period) (power x) (s .index) (omega arith) (le-of-lt lt) (levelErr s x) (seasonErr s x) (w .cycle ss a g z) at (mod-lt (s .index + h - 1) some))))
+      (more (c * dn′) (c * up′) (s .period) c j (power x) (narrow (s .gamma) (65536 - s .alpha) (s .period) (power x) dn′ up′ (spread-down 4294967296 (65536 * (65536 - s .alpha)) (65536 * s .gamma) (s .period) (power x) (s .index) (omega arith) (le-of-lt lt) (levelErr s x) (seasonErr s x) (w .cycle ss a g z) at (mod-lt (s .index + h - 1) some))))
     where
       c : ℕ
       c = s .gamma * (65536 - s .alpha) ^ s .period
@@ -174,10 +174,10 @@ module _ (s : State) (x : Exact) (h : ℕ) (w : Good (parametersOf s) s x) where
       j = s .period * 65536 ^ suc (s .period)
 
       up′ : ℕ
-      up′ = levelErr s x .0 + placeErr s x at .1
+      up′ = levelErr s x .0 + seasonErr s x at .1
 
       dn′ : ℕ
-      dn′ = levelErr s x .1 + placeErr s x at .0
+      dn′ = levelErr s x .1 + seasonErr s x at .0
 
       lt : s .index < s .period
       lt = with-season s (w .passes) ss .index

@@ -9,7 +9,7 @@ use Rattle.drift.specs.Limits.{Opening, Demand3}
 use Rattle.drift.proofs.Averages.{D, zeroD, Same}
 use Rattle.drift.proofs.Spread.{inv-start}
 use Rattle.drift.proofs.Errors.{Both}
-use Rattle.drift.proofs.Readings.{levelErr, placeErr}
+use Rattle.drift.proofs.Readings.{levelErr, seasonErr}
 use Rattle.drift.proofs.Invariant.{Sized, Good}
 use Rattle.drift.proofs.Runs.{claim}
 
@@ -24,8 +24,8 @@ module _ (s : State) (o : Opening s) where
   level-start : Same (levelErr s (opened s)) zeroD
   level-start = omega arith
 
-  place-start : (k : ℕ) → Same (placeErr s (opened s) k) zeroD
-  place-start k = omega arith
+  season-start : (k : ℕ) → Same (seasonErr s (opened s) k) zeroD
+  season-start k = omega arith
 
   start : Good (parametersOf s) s (opened s)
   start =
@@ -36,9 +36,9 @@ module _ (s : State) (o : Opening s) where
         index = refl;
         bare = λ h k. rw h;
         level = no-error (0 * 1) (levelErr s (opened s)) level-start;
-        places = λ k. no-error (0 * 1) (placeErr s (opened s) k) (place-start k);
+        places = λ k. no-error (0 * 1) (seasonErr s (opened s) k) (season-start k);
         plain = λ h. no-size (65536 * s .alpha) (4294967296 * 1) (levelErr s (opened s)) level-start;
-        cycle = λ h a g z. inv-start 4294967296 (65536 * (65536 - s .alpha)) (65536 * s .gamma) (65536 * (65536 - s .gamma)) (s .period) (s .index) (omega arith) (omega (arith, bounded s (o .passes) .gamma)) (omega arith) (omega arith) (omega (arith, with-season s (o .passes) h .index)) (levelErr s (opened s)) (placeErr s (opened s)) level-start place-start;
+        cycle = λ h a g z. inv-start 4294967296 (65536 * (65536 - s .alpha)) (65536 * s .gamma) (65536 * (65536 - s .gamma)) (s .period) (s .index) (omega arith) (omega (arith, bounded s (o .passes) .gamma)) (omega arith) (omega arith) (omega (arith, with-season s (o .passes) h .index)) (levelErr s (opened s)) (seasonErr s (opened s)) level-start season-start;
       }
 
 pub demand3 : Demand3

@@ -16,7 +16,7 @@ use Rattle.ets.specs.Steps.{termsOf, nextIndex, newSeason, newSeasonal, residua
 use Rattle.drift.proofs.Averages.{D, negD, zeroD, Same, StepBelow, half-mix, half-keep, plain-mix}
 use Rattle.drift.proofs.Cycles.{CycleInvariant, negs, inv-step, inv-wrap}
 use Rattle.drift.proofs.Errors.{parts, err, Both}
-use Rattle.drift.proofs.Readings.{power, power-next, levelErr, placeErr, reading-below, reading-above}
+use Rattle.drift.proofs.Readings.{power, power-next, levelErr, seasonErr, reading-below, reading-above}
 use Rattle.drift.specs.Exact.{Parameters, parametersOf, Exact, exactReading, exactMissing, exactSeason}
 
 -- 2 a |d| ≤ e
@@ -30,9 +30,9 @@ pub record Good (c : Parameters) (s : State) (x : Exact) : Type 0 where
   pub index : x .p ≡ s .index
   pub bare : c .seasonal ≡ false → (k : ℕ) → x .S k ≡ pos 0
   pub level : Both (x .n * power x) (levelErr s x) zeroD
-  pub places : (k : ℕ) → Both (x .n * power x) (placeErr s x k) zeroD
+  pub places : (k : ℕ) → Both (x .n * power x) (seasonErr s x k) zeroD
   pub plain : c .seasonal ≡ false → Sized (65536 * c .alpha) (4294967296 * power x) (levelErr s x)
-  pub cycle : c .seasonal ≡ true → c .alpha < 65536 → 0 < c .gamma → x .missed ≡ 0 → CycleInvariant 4294967296 (65536 * (65536 - c .alpha)) (65536 * c .gamma) (c .period) (power x) (s .index) (levelErr s x) (placeErr s x)
+  pub cycle : c .seasonal ≡ true → c .alpha < 65536 → 0 < c .gamma → x .missed ≡ 0 → CycleInvariant 4294967296 (65536 * (65536 - c .alpha)) (65536 * c .gamma) (c .period) (power x) (s .index) (levelErr s x) (seasonErr s x)
 
 -- ---- the next place
 data Next (m p : ℕ) : ℕ → Type 0 where
@@ -89,45 +89,45 @@ module _ (s : State) (x : Exact) (w : Good (parametersOf s) s x) where
     grown : 4294967296 * power x ≡ 65536 ^ (2 * suc (x .n))
     grown = sym (power-next (x .n))
 
-    below : StepBelow 4294967296 (65536 * s .alpha) (65536 * B) (65536 * s .gamma) (65536 * C) (power x) (s .index) (levelErr s x) (placeErr s x) (levelErr s′ x′) (placeErr s′ x′)
+    below : StepBelow 4294967296 (65536 * s .alpha) (65536 * B) (65536 * s .gamma) (65536 * C) (power x) (s .index) (levelErr s x) (seasonErr s x) (levelErr s′ x′) (seasonErr s′ x′)
     unfolding s′ x′
     below = reading-below s x y B C hA hG (w .flat) (w .index) none fits
 
-    above : StepBelow 4294967296 (65536 * s .alpha) (65536 * B) (65536 * s .gamma) (65536 * C) (power x) (s .index) (negD (levelErr s x)) (negs (placeErr s x)) (negD (levelErr s′ x′)) (negs (placeErr s′ x′))
+    above : StepBelow 4294967296 (65536 * s .alpha) (65536 * B) (65536 * s .gamma) (65536 * C) (power x) (s .index) (negD (levelErr s x)) (negs (seasonErr s x)) (negD (levelErr s′ x′)) (negs (seasonErr s′ x′))
     unfolding s′ x′
     above = reading-above s x y B C hA hG (w .flat) (w .index) none fits
 
     level′ : Both (suc (x .n) * (4294967296 * power x)) (levelErr s′ x′) zeroD
     level′ = (
-      half-mix 4294967296 (65536 * s .alpha) (65536 * B) (power x) (x .n) (levelErr s x) (placeErr s x (s .index)) (levelErr s′ x′) hA (w .level .0) (w .places (s .index) .0) (below .level),
-      half-mix 4294967296 (65536 * s .alpha) (65536 * B) (power x) (x .n) (negD (levelErr s x)) (negD (placeErr s x (s .index))) (negD (levelErr s′ x′)) hA (w .level .1) (w .places (s .index) .1) (above .level),
+      half-mix 4294967296 (65536 * s .alpha) (65536 * B) (power x) (x .n) (levelErr s x) (seasonErr s x (s .index)) (levelErr s′ x′) hA (w .level .0) (w .places (s .index) .0) (below .level),
+      half-mix 4294967296 (65536 * s .alpha) (65536 * B) (power x) (x .n) (negD (levelErr s x)) (negD (seasonErr s x (s .index))) (negD (levelErr s′ x′)) hA (w .level .1) (w .places (s .index) .1) (above .level),
     )
 
-    place′ : (k : ℕ) → Dec (k ≡ s .index) → Both (suc (x .n) * (4294967296 * power x)) (placeErr s′ x′ k) zeroD
-    place′ k (yes q) =
-        subst (λ (z : ℕ). Both (suc (x .n) * (4294967296 * power x)) (placeErr s′ x′ z) zeroD) (sym q) (
-          half-mix 4294967296 (65536 * s .gamma) (65536 * C) (power x) (x .n) (placeErr s x (s .index)) (levelErr s x) (placeErr s′ x′ (s .index)) hG (w .places (s .index) .0) (w .level .0) (below .here),
-          half-mix 4294967296 (65536 * s .gamma) (65536 * C) (power x) (x .n) (negD (placeErr s x (s .index))) (negD (levelErr s x)) (negD (placeErr s′ x′ (s .index))) hG (w .places (s .index) .1) (w .level .1) (above .here),
+    season′ : (k : ℕ) → Dec (k ≡ s .index) → Both (suc (x .n) * (4294967296 * power x)) (seasonErr s′ x′ k) zeroD
+    season′ k (yes q) =
+        subst (λ (z : ℕ). Both (suc (x .n) * (4294967296 * power x)) (seasonErr s′ x′ z) zeroD) (sym q) (
+          half-mix 4294967296 (65536 * s .gamma) (65536 * C) (power x) (x .n) (seasonErr s x (s .index)) (levelErr s x) (seasonErr s′ x′ (s .index)) hG (w .places (s .index) .0) (w .level .0) (below .here),
+          half-mix 4294967296 (65536 * s .gamma) (65536 * C) (power x) (x .n) (negD (seasonErr s x (s .index))) (negD (levelErr s x)) (negD (seasonErr s′ x′ (s .index))) hG (w .places (s .index) .1) (w .level .1) (above .here),
         )
-    place′ k (no q) = (
-      half-keep 4294967296 (power x) (x .n) (placeErr s x k) (placeErr s′ x′ k) (w .places k .0) (below .there k q),
-      half-keep 4294967296 (power x) (x .n) (negD (placeErr s x k)) (negD (placeErr s′ x′ k)) (w .places k .1) (above .there k q),
+    season′ k (no q) = (
+      half-keep 4294967296 (power x) (x .n) (seasonErr s x k) (seasonErr s′ x′ k) (w .places k .0) (below .there k q),
+      half-keep 4294967296 (power x) (x .n) (negD (seasonErr s x k)) (negD (seasonErr s′ x′ k)) (w .places k .1) (above .there k q),
     )
 
     plain′ : hasSeason (s .model) ≡ false → Sized (65536 * s .alpha) (4294967296 * (4294967296 * power x)) (levelErr s′ x′)
     plain′ h = (
-      plain-mix 4294967296 (65536 * s .alpha) (65536 * B) (power x) (levelErr s x) (placeErr s x (s .index)) (levelErr s′ x′) hA (w .plain h .0) still (below .level),
-      plain-mix 4294967296 (65536 * s .alpha) (65536 * B) (power x) (negD (levelErr s x)) (negD (placeErr s x (s .index))) (negD (levelErr s′ x′)) hA (w .plain h .1) (sym still) (above .level),
+      plain-mix 4294967296 (65536 * s .alpha) (65536 * B) (power x) (levelErr s x) (seasonErr s x (s .index)) (levelErr s′ x′) hA (w .plain h .0) still (below .level),
+      plain-mix 4294967296 (65536 * s .alpha) (65536 * B) (power x) (negD (levelErr s x)) (negD (seasonErr s x (s .index))) (negD (levelErr s′ x′)) hA (w .plain h .1) (sym still) (above .level),
     )
       where
-        still : Same (placeErr s x (s .index)) zeroD
+        still : Same (seasonErr s x (s .index)) zeroD
         still = idle (hasSeason (s .model)) (power x) (getD (s .seasonal) (s .index) (pos 0)) (x .S (s .index)) h (w .bare h (s .index))
 
-    cycle′ : hasSeason (s .model) ≡ true → s .alpha < 65536 → 0 < s .gamma → x .missed ≡ 0 → CycleInvariant 4294967296 (65536 * (65536 - s .alpha)) (65536 * s .gamma) (s .period) (4294967296 * power x) (nextIndex (s .period) (s .index)) (levelErr s′ x′) (placeErr s′ x′)
+    cycle′ : hasSeason (s .model) ≡ true → s .alpha < 65536 → 0 < s .gamma → x .missed ≡ 0 → CycleInvariant 4294967296 (65536 * (65536 - s .alpha)) (65536 * s .gamma) (s .period) (4294967296 * power x) (nextIndex (s .period) (s .index)) (levelErr s′ x′) (seasonErr s′ x′)
     unfolding B
     cycle′ h a g z =
-        inv-next 4294967296 (65536 * B) (65536 * s .gamma) (65536 * C) (s .period) (4294967296 * power x) (s .index) (nextIndex (s .period) (s .index)) (levelErr s′ x′) (placeErr s′ x′) hG (omega arith) (with-season s (w .passes) h .index) (next (s .period) (s .index))
-        (inv-step 4294967296 (65536 * s .alpha) (65536 * B) (65536 * s .gamma) (65536 * C) (s .period) (power x) (s .index) (levelErr s x) (placeErr s x) (levelErr s′ x′) (placeErr s′ x′) hA hG (with-season s (w .passes) h .index) below above (w .cycle h a g z))
+        inv-next 4294967296 (65536 * B) (65536 * s .gamma) (65536 * C) (s .period) (4294967296 * power x) (s .index) (nextIndex (s .period) (s .index)) (levelErr s′ x′) (seasonErr s′ x′) hG (omega arith) (with-season s (w .passes) h .index) (next (s .period) (s .index))
+        (inv-step 4294967296 (65536 * s .alpha) (65536 * B) (65536 * s .gamma) (65536 * C) (s .period) (power x) (s .index) (levelErr s x) (seasonErr s x) (levelErr s′ x′) (seasonErr s′ x′) hA hG (with-season s (w .passes) h .index) below above (w .cycle h a g z))
 
     cells′ : (b : Bool) (v : ℤ) → length (cond b (set (s .seasonal) (s .index) v) (s .seasonal)) ≡ 48
     cells′ true v = length-set (s .seasonal) (s .index) v ∙ w .cells
@@ -143,9 +143,9 @@ module _ (s : State) (x : Exact) (w : Good (parametersOf s) s x) where
           index = ap (nextIndex (s .period)) (w .index);
           bare = λ h k. rw h;
           level = subst (λ (P : ℕ). Both (suc (x .n) * P) (levelErr s′ x′) zeroD) grown level′;
-          places = λ k. subst (λ (P : ℕ). Both (suc (x .n) * P) (placeErr s′ x′ k) zeroD) grown (place′ k (ℕ-discrete k (s .index)));
+          places = λ k. subst (λ (P : ℕ). Both (suc (x .n) * P) (seasonErr s′ x′ k) zeroD) grown (season′ k (ℕ-discrete k (s .index)));
           plain = λ h. subst (λ (P : ℕ). Sized (65536 * s .alpha) (4294967296 * P) (levelErr s′ x′)) grown (plain′ h);
-          cycle = λ h a g z. subst (λ (P : ℕ). CycleInvariant 4294967296 (65536 * (65536 - s .alpha)) (65536 * s .gamma) (s .period) P (nextIndex (s .period) (s .index)) (levelErr s′ x′) (placeErr s′ x′)) grown (cycle′ h a g z);
+          cycle = λ h a g z. subst (λ (P : ℕ). CycleInvariant 4294967296 (65536 * (65536 - s .alpha)) (65536 * s .gamma) (s .period) P (nextIndex (s .period) (s .index)) (levelErr s′ x′) (seasonErr s′ x′)) grown (cycle′ h a g z);
         }
 
   -- ---- a missing reading accepted

@@ -32,8 +32,8 @@ abbrev pub levelErr : State → Exact → D
 levelErr s x = err (power x) (parts (s .level)) (parts (x .L))
 
 -- of a season value, with the sign turned
-abbrev pub placeErr : State → Exact → ℕ → D
-placeErr s x k = negD (err (power x) (parts (valueAt s k)) (parts (x .S k)))
+abbrev pub seasonErr : State → Exact → ℕ → D
+seasonErr s x k = negD (err (power x) (parts (valueAt s k)) (parts (x .S k)))
 
 -- ---- by cases on the season, which is b
 stored-here : (b : Bool) (cells : List ℤ) (p : ℕ) (v : ℤ) → p < length cells → cond b (getD (cond b (set cells p v) cells) p (pos 0)) (pos 0) ≡ cond b v (pos 0)
@@ -145,28 +145,28 @@ module _ (s : State) (x : Exact) (y : ℤ) (B C : ℕ) (hA : 65536 * s .alpha + 
   residuals =
       residual-error (power x) (residualOf s y) (s .level) (dampedTrend s) (seasonDue s) (x .L) (x .S (s .index)) y flat refl
 
-  there : (k : ℕ) → k ≢ s .index → Same (placeErr s′ x′ k) (scaleD 4294967296 (placeErr s x k))
+  there : (k : ℕ) → k ≢ s .index → Same (seasonErr s′ x′ k) (scaleD 4294967296 (seasonErr s x k))
   unfolding s′ x′
   there k h =
       rw (power-next (x .n))
       (kept (power x) (valueAt s k) (valueAt (afterReading s y) k) (x .S k) (exactReading (parametersOf s) x y .S k) (value-other s (residualOf s y) flat (λ h. none h .0) fits k h) (S-there (parametersOf s) x y (s .index) still same-p none k h))
 
-  levels : Both (4294967296 * power x) (levelErr s′ x′) (mix (65536 * B) (levelErr s x) (65536 * s .alpha) (placeErr s x (s .index)))
+  levels : Both (4294967296 * power x) (levelErr s′ x′) (mix (65536 * B) (levelErr s x) (65536 * s .alpha) (seasonErr s x (s .index)))
   unfolding s′ x′
   levels =
       rw (power-next (x .n))
       (corrected-both (power x) (s .alpha) B hA (residualOf s y) (E (parametersOf s) x y (s .index) still same-p none) (s .level) (x .L) (valueAt s (s .index)) (x .S (s .index)) (s′ .level) (x′ .L) (level-new s (residualOf s y) flat (λ h. none h .0) fits) (L-new (parametersOf s) x y (s .index) still same-p none) residuals)
 
-  values : Both (4294967296 * power x) (negD (placeErr s′ x′ (s .index))) (mix (65536 * C) (negD (placeErr s x (s .index))) (65536 * s .gamma) (negD (levelErr s x)))
+  values : Both (4294967296 * power x) (negD (seasonErr s′ x′ (s .index))) (mix (65536 * C) (negD (seasonErr s x (s .index))) (65536 * s .gamma) (negD (levelErr s x)))
   unfolding s′ x′
   values =
       rw (power-next (x .n))
       (corrected-both (power x) (s .gamma) C hG (residualOf s y) (E (parametersOf s) x y (s .index) still same-p none) (valueAt s (s .index)) (x .S (s .index)) (s .level) (x .L) (valueAt s′ (s .index)) (x′ .S (s .index)) (value-new s (residualOf s y) flat (λ h. none h .0) fits) (S-here (parametersOf s) x y (s .index) still same-p none) (swapped _ _ _ residuals))
 
-  pub reading-below : StepBelow 4294967296 (65536 * s .alpha) (65536 * B) (65536 * s .gamma) (65536 * C) (power x) (s .index) (levelErr s x) (placeErr s x) (levelErr (afterReading s y) (exactReading (parametersOf s) x y)) (placeErr (afterReading s y) (exactReading (parametersOf s) x y))
+  pub reading-below : StepBelow 4294967296 (65536 * s .alpha) (65536 * B) (65536 * s .gamma) (65536 * C) (power x) (s .index) (levelErr s x) (seasonErr s x) (levelErr (afterReading s y) (exactReading (parametersOf s) x y)) (seasonErr (afterReading s y) (exactReading (parametersOf s) x y))
   unfolding s′ x′
   reading-below = record { level = levels .0; here = values .1; there = there }
 
-  pub reading-above : StepBelow 4294967296 (65536 * s .alpha) (65536 * B) (65536 * s .gamma) (65536 * C) (power x) (s .index) (negD (levelErr s x)) (negs (placeErr s x)) (negD (levelErr (afterReading s y) (exactReading (parametersOf s) x y))) (negs (placeErr (afterReading s y) (exactReading (parametersOf s) x y)))
+  pub reading-above : StepBelow 4294967296 (65536 * s .alpha) (65536 * B) (65536 * s .gamma) (65536 * C) (power x) (s .index) (negD (levelErr s x)) (negs (seasonErr s x)) (negD (levelErr (afterReading s y) (exactReading (parametersOf s) x y))) (negs (seasonErr (afterReading s y) (exactReading (parametersOf s) x y)))
   unfolding s′ x′
   reading-above = record { level = levels .1; here = values .0; there = λ k h. sym (there k h) }

@@ -1,5 +1,6 @@
 -- Document 01, "Forecast and variance": the weights (document 000, Class 1) and the variance.
 use Prim.Native.Nat.{ℕ, zero, suc, _+_, _-_, _*_, _/_, _%_}
+use mathlib.Core.Path.{_≡_}
 use mathlib.Core.Bool.{cond, _&&_}
 use lib.Dec.{eqb}
 use Rattle.state.specs.Fixed.{shareNat}
@@ -64,6 +65,13 @@ varianceCode (variance-of.Rejected n) = n
 abbrev pub varianceValue : Variance → ℕ
 varianceValue (variance-of.Accepted high low) = high * 18446744073709551616 + low
 varianceValue (variance-of.Rejected n) = 0
+
+-- each case is told by its number and its values
+pub record AnswerCases (n v : ℕ) : Type 0 where
+  pub weight-code : weightCode (weightAnswer n v) ≡ n
+  pub weight-value : n ≡ 0 → (old : ℕ) → weightValue (weightAnswer n v) old ≡ v
+  pub variance-code : varianceCode (varianceAnswer n v) ≡ n
+  pub variance-value : n ≡ 0 → varianceValue (varianceAnswer n v) ≡ v
 
 -- the calls, rejected as a forecast is: by the state's checks, then 11
 unfoldable pub weight : State → ℕ → Weight

@@ -6,7 +6,8 @@ use super::sums::weight_of;
 use ets::forecasts::forecast_code;
 use state::State;
 ghost use mathlib.Core.Path.{_≡_};
-ghost use Rattle.weights.specs.Weights.{weight, variance};
+ghost use Prim.Native.Nat.{ℕ};
+ghost use Rattle.weights.specs.Weights.{AnswerCases, weight, variance};
 
 pub fn weight(s: State, h: u32) -> Weight
     ensures { λ r. ⌜ r ≡ weight s h ⌝ }
@@ -29,3 +30,8 @@ pub fn variance(s: State, h: u32, sigma2: u32) -> Variance
         Variance::Rejected(n)
     }
 }
+
+// A promise: each case of the answers is told by document 01's number and its values.
+pub fn cases()
+    ensures { λ _. ⌜ ((n v : ℕ) → AnswerCases n v) ⌝ }
+{}

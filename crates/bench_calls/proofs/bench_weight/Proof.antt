@@ -4,7 +4,7 @@ use Rattle.snapshot.specs.InPlace.{inPlaceCode}
 use Rattle.bench_calls.proofs.Opened.{code-is, state-is}
 use Rattle.weights.specs.Weights.{weight}
 use Rattle.snapshot.specs.Snapshots.{decoded}
-use Rattle.bench_calls.specs.Snapshots.{lentWeightCode, lentWeight}
+use Rattle.bench_calls.specs.Snapshots.{inPlaceWeightCode, inPlaceWeight}
 use borrow.Author.Needs.{needs}
 use Rattle.bench_calls.proofs.bench_weight.Statement.{statement}
 use Rattle.bench_calls.proofs.bench_weight.Tie as tie
@@ -28,7 +28,7 @@ code-of-requires : tie.Need-code-of-requires
 code-of-requires c κs = search needs
 
 returns : tie.Need-returns
-unfolding lentWeightCode lentWeight
+unfolding inPlaceWeightCode inPlaceWeight
 returns c = rw (← (code (c .before)), ne-eqb _ _ (c .if1 .taken)) (refl, refl)
 
 weight-requires : tie.Need-weight-requires
@@ -41,13 +41,13 @@ enum-known-n : tie.Need-enum-known-n
 enum-known-n c = search needs
 
 returns-2 : tie.Need-returns-2
-unfolding lentWeightCode lentWeight
+unfolding inPlaceWeightCode inPlaceWeight
 returns-2 c =
     let f = c .before .before .before in
     rw (opens (f .before .before), sym (found f) ∙ c .before .w .given .1) (refl, refl)
 
 returns-3 : tie.Need-returns-3
-unfolding lentWeightCode lentWeight
+unfolding inPlaceWeightCode inPlaceWeight
 returns-3 c =
     let f = c .before .before .before in
     rw (opens (f .before .before), sym (found f) ∙ c .before .n .given .1) (refl, refl)
