@@ -8,20 +8,21 @@ The program reads records and writes a line for each. A record is an operation's
     2 check
     3 step         with a reading of 32 bits
     4 missing
-    5 batch        a length of the cells lent, a length and as many readings of 32 bits
+    5 batch        the length of the cells lent, a length and as many readings of 32 bits
     6 forecast     for a horizon of 32 bits
-    7 forecasts    for a horizon, and a length of the cells lent
+    7 forecasts    the length of the cells lent, for a horizon
     8 weight       of a horizon
     9 variance     of a horizon, with 32 bits for the residuals' variance
-    10 save        a length of the byte cells lent
+    10 save        the length of the byte cells lent
 
 A state is a length and as many season cells of 64 bits, the others being 0; model and m, a byte each; A, B, G, F of 32 bits;
 l and b of 64 bits; p, a byte; count, of 64 bits.
 
-A line is the operation, the refusal or 0, and what the call gives, each number before a blank; bytes are hexadecimal, and stand
-last. A step, a missing reading, a batch and a read give a state, with all its season cells after the count; a save gives the
-bytes that the state needs or its refusal; a read gives, after the state, the refusal once more and the rest of the bytes, which
-after a refusal begins with the refused command. Cells lent start as 77, so that what a call leaves untouched is seen.
+A line is the operation, the refusal or 0, and what the call gives, each number before a blank; a byte is a number. A step, a
+missing reading, a batch and a read give a state, with all its season cells after the count; a save gives the bytes that the
+state needs or its refusal; a read gives, after the state, the refusal once more and the rest of the bytes, which after a
+refusal begins with the refused command. The cells lent stand last. They start as 77, so that what a call leaves untouched is
+seen.
 """
 
 from dataclasses import replace
@@ -66,13 +67,14 @@ class Script:
         self.state = State()
         self.last = State()
 
-    def play(self, operation, operands, found, data=b""):
-        """A record of a call on the state, and its line."""
-        self.records.append(numbers(1, operation) + state_bytes(self.state) + operands)
-        self.line(operation, found, data)
+    def record(self, operation, operands, found):
+        """A record, and its line."""
+        self.records.append(numbers(1, operation) + operands)
+        self.lines.append("".join(f"{n} " for n in [operation, *found]))
 
-    def line(self, operation, found, data):
-        self.lines.append("".join(f"{n} " for n in [operation, *found]) + data.hex())
+    def play(self, operation, operands, found):
+        """A call on the state."""
+        self.record(operation, state_bytes(self.state) + operands, found)
 
     def use(self, x):
         """Makes x the state of the calls that follow."""
@@ -117,7 +119,7 @@ class Script:
     def forecasts(self, h, room):
         filled = [UNTOUCHED] * room
         found = attempted(lambda: f.forecasts(self.state, h, filled) or [])
-        self.play(FORECASTS, numbers(4, h, room), found + filled)
+        self.play(FORECASTS, numbers(4, room, h), found + filled)
 
     def weight(self, h):
         self.play(WEIGHT, numbers(4, h), attempted(lambda: [f.weight(self.state, h)]))
@@ -129,7 +131,7 @@ class Script:
         filled = bytearray([UNTOUCHED] * room)
         found = attempted(lambda: [f.save(self.state, filled)])
         needed = attempted(lambda: [f.save(self.state, bytearray(600))])
-        self.play(SAVE, numbers(4, room), [found[0], needed[-1]], bytes(filled))
+        self.play(SAVE, numbers(4, room), [found[0], needed[-1], *filled])
 
     def read(self, data):
         code = 0
@@ -138,8 +140,7 @@ class Script:
             self.last = x
         except f.Rejected as r:
             x, used, code = State(model=255), r.offset, r.code
-        self.records.append(numbers(1, READ) + numbers(4, len(data)) + data)
-        self.line(READ, [code, *state_numbers(x), code], data[used:])
+        self.record(READ, numbers(4, len(data)) + data, [code, *state_numbers(x), code, *data[used:]])
 
     def everything(self):
         """Each call on the state, with operands that would pass."""

@@ -1,9 +1,8 @@
 // The calls, and what each answers: a rejection's number or 0, and then what the call gives.
-use super::input::fill_readings;
 use super::input::first_bytes;
-use super::input::first_readings;
 use super::input::first_values;
 use super::input::next_i32;
+use super::input::next_readings;
 use super::input::next_size;
 use super::input::next_state;
 use super::input::next_u32;
@@ -19,7 +18,6 @@ use ets::forecasts::forecasts;
 use ets::steps::missing;
 use ets::steps::step;
 use libc::STDIN_FILENO;
-use libc::STDOUT_FILENO;
 use snapshot::Length;
 use snapshot::bytes_needed;
 use snapshot::read;
@@ -72,15 +70,8 @@ fn print_variance(v: Variance) {
     }
 }
 
-fn print_length(length: Length) {
-    match length {
-        Length::Bytes(n) => print_number(n as u64),
-        Length::Rejected(code) => print_code(code),
-    }
-}
-
-fn play_step(s: State, y: i32) {
-    let r = step(s, y);
+fn play_step(s: State) {
+    let r = step(s, next_i32());
     let residual = r.residual;
     print_answer(residual);
     print_state(r.state);
@@ -93,26 +84,25 @@ fn play_missing(s: State) {
     print_state(r.state);
 }
 
-// Cells start as 77, so that what a call leaves untouched is seen.
-fn play_batch(s: State) {
-    let mut cells = [77i64; 520];
-    let levels = first_values(&mut cells, next_size());
+fn play_batch(s: State, levels: &mut [i64]) {
     let mut space = [0i32; 256];
-    let readings = first_readings(&mut space, next_size());
-    fill_readings(readings);
+    let readings = next_readings(&mut space, next_size());
     let r = batch(s, readings, levels);
     let outcome = r.outcome;
     print_outcome(outcome);
     print_number(r.taken as u64);
     print_state(r.state);
-    print_values(levels);
 }
 
-fn play_forecasts(s: State) {
-    let h = next_u32();
+// Cells start as 77, so that what a call leaves untouched is seen.
+fn play_cells(operation: u8, s: State) {
     let mut cells = [77i64; 520];
     let values = first_values(&mut cells, next_size());
-    print_outcome(forecasts(s, h, values));
+    if operation == 5 {
+        play_batch(s, values);
+    } else {
+        print_outcome(forecasts(s, next_u32(), values));
+    }
     print_values(values);
 }
 
@@ -120,53 +110,38 @@ fn play_save(s: State) {
     let mut cells = [77u8; 1024];
     let bytes = first_bytes(&mut cells, next_size());
     print_outcome(save(s, bytes));
-    print_length(bytes_needed(s));
+    match bytes_needed(s) {
+        Length::Bytes(n) => print_number(n as u64),
+        Length::Rejected(code) => print_code(code),
+    }
     print_bytes(bytes);
-}
-
-fn play_rest(data: &[u8]) {
-    let mut code = 0u8;
-    let left = rest(data, &mut code);
-    print_code(code);
-    print_bytes(left);
 }
 
 fn play_read() {
     let mut space = [0u8; 1024];
-    let data = first_bytes(&mut space, next_size());
-    io::read_full(STDIN_FILENO, data);
-    let opened = read(data);
+    let bytes = first_bytes(&mut space, next_size());
+    io::read_full(STDIN_FILENO, bytes);
+    let opened = read(bytes);
     let outcome = opened.outcome;
     print_outcome(outcome);
     print_state(opened.state);
-    play_rest(data);
+    let mut code = 0u8;
+    let left = rest(bytes, &mut code);
+    print_code(code);
+    print_bytes(left);
 }
 
-// The calls on a state.
-fn play_call(operation: u8, s: State) {
-    match operation {
-        2 => print_code(check(s)),
-        3 => play_step(s, next_i32()),
-        4 => play_missing(s),
-        5 => play_batch(s),
-        6 => print_answer(forecast(s, next_u32())),
-        7 => play_forecasts(s),
-        8 => print_weight(weight(s, next_u32())),
-        9 => {
-            let h = next_u32();
-            print_variance(variance(s, h, next_u32()));
-        }
-        _ => play_save(s),
-    }
-}
-
-// A line for each record: its operation, and what the call answers.
+// Makes the call of an operation, and prints what it answers.
 pub fn play(operation: u8) {
-    print_code(operation);
-    if operation == 1 {
-        play_read();
-    } else {
-        play_call(operation, next_state());
+    match operation {
+        1 => play_read(),
+        2 => print_code(check(next_state())),
+        3 => play_step(next_state()),
+        4 => play_missing(next_state()),
+        6 => print_answer(forecast(next_state(), next_u32())),
+        8 => print_weight(weight(next_state(), next_u32())),
+        9 => print_variance(variance(next_state(), next_u32(), next_u32())),
+        10 => play_save(next_state()),
+        _ => play_cells(operation, next_state()),
     }
-    io::write_all(STDOUT_FILENO, b"\n");
 }

@@ -9,17 +9,11 @@ pub fn next_byte() -> u8 {
     bytes[0]
 }
 
-fn next_wide() -> usize
-    ensures { λ r. ⌜ r < 256 ⌝ }
-{
-    next_byte() as usize
-}
-
 fn next_pair() -> usize
     ensures { λ r. ⌜ r < 65536 ⌝ }
 {
-    let low = next_wide();
-    low + 256 * next_wide()
+    let low = next_byte() as usize;
+    low + 256 * (next_byte() as usize)
 }
 
 // A number of 32 bits, also a length.
@@ -75,14 +69,6 @@ pub fn first_values<'a>(values: &'a mut [i64], n: usize) -> &'a mut [i64] {
     }
 }
 
-pub fn first_readings<'a>(readings: &'a mut [i32], n: usize) -> &'a mut [i32] {
-    if n <= readings.len() {
-        &mut readings[..n]
-    } else {
-        readings
-    }
-}
-
 pub fn fill_values(values: &mut [i64]) {
     let mut i = 0;
     while i < values.len() {
@@ -91,12 +77,17 @@ pub fn fill_values(values: &mut [i64]) {
     }
 }
 
-pub fn fill_readings(readings: &mut [i32]) {
+// So many readings, or as many as there is room for.
+pub fn next_readings<'a>(space: &'a mut [i32], n: usize) -> &'a mut [i32] {
     let mut i = 0;
-    while i < readings.len() {
-        readings[i] = next_i32();
+    while i < n {
+        if space.len() <= i {
+            return space;
+        }
+        space[i] = next_i32();
         i += 1;
     }
+    &mut space[..i]
 }
 
 // A state as it stands, whatever its numbers: the season cells of the record, and 0 after them.

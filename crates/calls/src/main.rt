@@ -5,10 +5,13 @@ mod printing;
 
 use answers::play;
 use input::next_byte;
+use printing::end_line;
+use printing::print_code;
 
 // More records than any file of calls has, so that the program ends.
 const MAX_RECORDS: usize = 100000;
 
+// A line for each record: its operation, and what the call answers.
 fn main() {
     let mut left = MAX_RECORDS;
     while 0 < left {
@@ -16,7 +19,9 @@ fn main() {
         if operation == 0 {
             return;
         }
+        print_code(operation);
         play(operation);
+        end_line();
         left -= 1;
     }
 }

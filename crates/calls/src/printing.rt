@@ -1,4 +1,4 @@
-// What the program writes: numbers, each before a blank, and bytes.
+// What the program writes: numbers, each before a blank.
 use libc::STDOUT_FILENO;
 use lines::magnitude;
 use state::State;
@@ -19,6 +19,10 @@ pub fn print_signed(z: i64) {
     print_number(magnitude(z));
 }
 
+pub fn end_line() {
+    io::write_all(STDOUT_FILENO, b"\n");
+}
+
 pub fn print_values(values: &[i64]) {
     let mut i = 0;
     while i < values.len() {
@@ -27,14 +31,10 @@ pub fn print_values(values: &[i64]) {
     }
 }
 
-fn print_byte(b: u8) {
-    io::print_hex(STDOUT_FILENO, b as u64, 2);
-}
-
 pub fn print_bytes(bytes: &[u8]) {
     let mut i = 0;
     while i < bytes.len() {
-        print_byte(bytes[i]);
+        print_code(bytes[i]);
         i += 1;
     }
 }
