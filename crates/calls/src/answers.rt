@@ -12,25 +12,13 @@ use super::printing::print_number;
 use super::printing::print_signed;
 use super::printing::print_state;
 use super::printing::print_values;
-use ets::batches::batch;
-use ets::forecasts::forecast;
-use ets::forecasts::forecasts;
-use ets::steps::missing;
-use ets::steps::step;
 use libc::STDIN_FILENO;
 use snapshot::Length;
-use snapshot::bytes_needed;
-use snapshot::read;
-use snapshot::rest;
-use snapshot::save;
 use state::Answer;
 use state::Outcome;
 use state::State;
-use state::checks::check;
 use weights::Variance;
 use weights::Weight;
-use weights::variances::variance;
-use weights::variances::weight;
 
 fn print_outcome(outcome: Outcome) {
     match outcome {
@@ -70,15 +58,22 @@ fn print_variance(v: Variance) {
     }
 }
 
+fn print_length(length: Length) {
+    match length {
+        Length::Bytes(n) => print_number(n as u64),
+        Length::Rejected(code) => print_code(code),
+    }
+}
+
 fn play_step(s: State) {
-    let r = step(s, next_i32());
+    let r = ets::steps::step(s, next_i32());
     let residual = r.residual;
     print_answer(residual);
     print_state(r.state);
 }
 
 fn play_missing(s: State) {
-    let r = missing(s);
+    let r = ets::steps::missing(s);
     let outcome = r.outcome;
     print_outcome(outcome);
     print_state(r.state);
@@ -87,7 +82,7 @@ fn play_missing(s: State) {
 fn play_batch(s: State, levels: &mut [i64]) {
     let mut space = [0i32; 256];
     let readings = next_readings(&mut space, next_size());
-    let r = batch(s, readings, levels);
+    let r = ets::batches::batch(s, readings, levels);
     let outcome = r.outcome;
     print_outcome(outcome);
     print_number(r.taken as u64);
@@ -101,7 +96,7 @@ fn play_cells(operation: u8, s: State) {
     if operation == 5 {
         play_batch(s, values);
     } else {
-        print_outcome(forecasts(s, next_u32(), values));
+        print_outcome(ets::forecasts::forecasts(s, next_u32(), values));
     }
     print_values(values);
 }
@@ -109,11 +104,8 @@ fn play_cells(operation: u8, s: State) {
 fn play_save(s: State) {
     let mut cells = [77u8; 1024];
     let bytes = first_bytes(&mut cells, next_size());
-    print_outcome(save(s, bytes));
-    match bytes_needed(s) {
-        Length::Bytes(n) => print_number(n as u64),
-        Length::Rejected(code) => print_code(code),
-    }
+    print_outcome(snapshot::save(s, bytes));
+    print_length(snapshot::bytes_needed(s));
     print_bytes(bytes);
 }
 
@@ -121,12 +113,12 @@ fn play_read() {
     let mut space = [0u8; 1024];
     let bytes = first_bytes(&mut space, next_size());
     io::read_full(STDIN_FILENO, bytes);
-    let opened = read(bytes);
+    let opened = snapshot::read(bytes);
     let outcome = opened.outcome;
     print_outcome(outcome);
     print_state(opened.state);
     let mut code = 0u8;
-    let left = rest(bytes, &mut code);
+    let left = snapshot::rest(bytes, &mut code);
     print_code(code);
     print_bytes(left);
 }
@@ -135,12 +127,12 @@ fn play_read() {
 pub fn play(operation: u8) {
     match operation {
         1 => play_read(),
-        2 => print_code(check(next_state())),
+        2 => print_code(state::checks::check(next_state())),
         3 => play_step(next_state()),
         4 => play_missing(next_state()),
-        6 => print_answer(forecast(next_state(), next_u32())),
-        8 => print_weight(weight(next_state(), next_u32())),
-        9 => print_variance(variance(next_state(), next_u32(), next_u32())),
+        6 => print_answer(ets::forecasts::forecast(next_state(), next_u32())),
+        8 => print_weight(weights::variances::weight(next_state(), next_u32())),
+        9 => print_variance(weights::variances::variance(next_state(), next_u32(), next_u32())),
         10 => play_save(next_state()),
         _ => play_cells(operation, next_state()),
     }

@@ -69,12 +69,19 @@ pub fn first_values<'a>(values: &'a mut [i64], n: usize) -> &'a mut [i64] {
     }
 }
 
-pub fn fill_values(values: &mut [i64]) {
-    let mut i = 0;
-    while i < values.len() {
-        values[i] = next_i64();
-        i += 1;
+// The season cells of a record, and 0 after them.
+fn next_season() -> [i64; 48] {
+    let n = next_size();
+    let mut cells = [0i64; 48];
+    let mut k = 0;
+    while k < 48 {
+        if n <= k {
+            return cells;
+        }
+        cells[k] = next_i64();
+        k += 1;
     }
+    cells
 }
 
 // So many readings, or as many as there is room for.
@@ -90,10 +97,9 @@ pub fn next_readings<'a>(space: &'a mut [i32], n: usize) -> &'a mut [i32] {
     &mut space[..i]
 }
 
-// A state as it stands, whatever its numbers: the season cells of the record, and 0 after them.
+// A state as it stands, whatever its numbers.
 pub fn next_state() -> State {
-    let mut seasonal = [0i64; 48];
-    fill_values(first_values(&mut seasonal, next_size()));
+    let seasonal = next_season();
     State {
         model: next_byte(),
         period: next_byte(),
