@@ -4,7 +4,7 @@ use mathlib.Core.List.{List}
 use lib.IntN.{ℤ}
 use Rattle.state.specs.Rejections.{_then_, accepting, outcomeCode}
 use Rattle.ets.specs.Batches.{batch, batchLevels}
-use Rattle.ets.specs.Forecasts.{forecastsCode, forecastCells}
+use Rattle.forecasts.specs.Forecasts.{forecastsCode, forecastCells}
 use Rattle.snapshot.specs.Snapshots.{decoded}
 use Rattle.snapshot.specs.InPlace.{inPlaceCode}
 use Rattle.weights.specs.Weights.{weight, weightCode, weightValue}

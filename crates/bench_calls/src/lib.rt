@@ -1,7 +1,7 @@
 // Entry points of the benchmark: calls that the station's C interface does not have, on a lent slice that holds one snapshot.
 // Each returns the rejection's number or 0, as the station's calls do; a rejected call leaves the cells and the lent weight as found.
 use ets::batches::batch;
-use ets::forecasts::forecasts;
+use forecasts::forecasts;
 use snapshot::in_place::read;
 use state::code_of;
 use weights::Weight;

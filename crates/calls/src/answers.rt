@@ -96,7 +96,7 @@ fn play_cells(operation: u8, s: State) {
     if operation == 5 {
         play_batch(s, values);
     } else {
-        print_outcome(ets::forecasts::forecasts(s, next_u32(), values));
+        print_outcome(forecasts::forecasts(s, next_u32(), values));
     }
     print_values(values);
 }
@@ -130,7 +130,7 @@ pub fn play(operation: u8) {
         2 => print_code(state::checks::check(next_state())),
         3 => play_step(next_state()),
         4 => play_missing(next_state()),
-        6 => print_answer(ets::forecasts::forecast(next_state(), next_u32())),
+        6 => print_answer(forecasts::forecast(next_state(), next_u32())),
         8 => print_weight(weights::variances::weight(next_state(), next_u32())),
         9 => print_variance(weights::variances::variance(next_state(), next_u32(), next_u32())),
         10 => play_save(next_state()),

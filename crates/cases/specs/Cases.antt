@@ -8,7 +8,7 @@ use Rattle.state.specs.States.{stateOf, check}
 use Rattle.state.specs.declared.State.{State}
 use Rattle.state.specs.declared.Answer.the-variants as answer-of
 use Rattle.ets.specs.Steps.{stepCode, step, missing}
-use Rattle.ets.specs.Forecasts.{forecastCode, forecast}
+use Rattle.forecasts.specs.Forecasts.{forecastCode, forecast}
 use Rattle.weights.specs.Weights.{weight, variance}
 use Rattle.weights.specs.declared.Weight.the-variants as weight-of
 use Rattle.weights.specs.declared.Variance.the-variants as variance-of

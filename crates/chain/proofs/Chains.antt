@@ -7,7 +7,7 @@ use lib.ListN.{getD}
 use Rattle.state.specs.Rejections.{answerCode, answerValue}
 use Rattle.state.specs.declared.State.{State}
 use Rattle.ets.specs.Steps.{step}
-use Rattle.ets.specs.Forecasts.{forecast}
+use Rattle.forecasts.specs.Forecasts.{forecast}
 use Rattle.snapshot.specs.Snapshots.{decoded}
 use Rattle.snapshot.specs.InPlace.{inPlaceCode, inPlaceStepBytes, inPlaceForecastCode, inPlaceForecast}
 use Rattle.traces.specs.Calls.{followed, Reading, Forecast, InPlaceReading, InPlaceForecast, result}

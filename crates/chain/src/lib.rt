@@ -1,14 +1,14 @@
 // Callers that chain real calls, directly and in place: what they are answered is within demand 3's limits by their contracts.
 use c_api::forecaster_forecast;
 use c_api::forecaster_step;
-use ets::forecasts::forecast;
 use ets::steps::step;
+use forecasts::forecast;
 use state::Answer;
 use state::State;
 ghost use mathlib.Core.Path.{_≡_};
 ghost use mathlib.Core.List.{[]};
 ghost use Rattle.state.specs.Rejections.{answerCode, answerValue};
-ghost use Rattle.ets.specs.Forecasts.{forecast};
+ghost use Rattle.forecasts.specs.Forecasts.{forecast};
 ghost use Rattle.ets.specs.Steps.{step};
 ghost use Rattle.snapshot.specs.Snapshots.{decoded};
 ghost use Rattle.snapshot.specs.InPlace.{inPlaceCode, inPlaceStepBytes, inPlaceResidual, inPlaceForecastCode, inPlaceForecast};

@@ -18,7 +18,7 @@ use Rattle.state.specs.declared.Outcome.{Outcome}
 use Rattle.state.specs.declared.Outcome.the-variants as outcome-of
 use Rattle.state.proofs.Tests.{cond-elim, both, then-zero, unless-zero}
 use Rattle.ets.specs.Steps.{step, stepCode, residualOf, missing, missingCode}
-use Rattle.ets.specs.Forecasts.{forecastTo, forecastCode, forecastOf}
+use Rattle.forecasts.specs.Forecasts.{forecastTo, forecastCode, forecastOf}
 use Rattle.ets.proofs.Kept.{cells-kept, reading-kept, missing-kept}
 use Rattle.weights.specs.Weights.{variance}
 use Rattle.weights.specs.declared.Variance.{Variance}

@@ -15,7 +15,7 @@ use Rattle.state.specs.declared.Outcome.the-variants as outcome-of
 use Rattle.state.specs.declared.Answer.{Answer}
 use Rattle.state.specs.declared.Answer.the-variants as answer-of
 use Rattle.ets.specs.Steps.{step, missing}
-use Rattle.ets.specs.Forecasts.{forecast}
+use Rattle.forecasts.specs.Forecasts.{forecast}
 use Rattle.weights.specs.Weights.{variance}
 use Rattle.weights.specs.declared.Variance.{Variance}
 use Rattle.weights.specs.declared.Variance.the-variants as variance-of

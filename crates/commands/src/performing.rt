@@ -1,9 +1,9 @@
 // What each command answers, and what stands after it. A rejected one leaves everything as it was.
 use super::Performed;
 use super::Session;
-use ets::forecasts::forecast;
 use ets::steps::missing;
 use ets::steps::step;
+use forecasts::forecast;
 use lines::Reply;
 use snapshot::Length;
 use snapshot::bytes_needed;

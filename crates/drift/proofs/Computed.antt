@@ -11,7 +11,7 @@ use Rattle.state.specs.Fixed.{R, share}
 use Rattle.state.specs.States.{check, allBelow}
 use Rattle.ets.specs.Steps.{dampedTrend, seasonDue, newLevel, newTrend, newSeason, newSeasonal, nextIndex, stepCode, missingCode, step, missing, residual}
 use Rattle.ets.specs.Batches.{takeCode, afterTake, run, batchRun, batch, batchLevels}
-use Rattle.ets.specs.Forecasts.{trendAt, trendLine, seasonAt, forecastOf, forecastList, forecastTo, forecastCellsTo, forecastsTo, forecastCodeTo, forecastsCodeTo}
+use Rattle.forecasts.specs.Forecasts.{trendAt, trendLine, seasonAt, forecastOf, forecastList, forecastTo, forecastCellsTo, forecastsTo, forecastCodeTo, forecastsCodeTo}
 use Rattle.snapshot.specs.Bytes.{fromBytes, toBytes}
 use Rattle.snapshot.specs.CommandTable.{commandSize, isCommand}
 use Rattle.snapshot.specs.Layout.{modelBytes, levelBytes, seasonBytes, seasonsBytes, positionBytes}

@@ -11,7 +11,7 @@ use lib.ListN.{getD}
 use Rattle.integers.proofs.Difference.{diff, known, sum, minus, scaled}
 use Rattle.state.specs.Models.{hasSeason}
 use Rattle.state.specs.declared.State.{State}
-use Rattle.ets.specs.Forecasts.{seasonAt, forecastOf}
+use Rattle.forecasts.specs.Forecasts.{seasonAt, forecastOf}
 use Rattle.drift.proofs.Averages.{D, zeroD, Same}
 use Rattle.drift.proofs.Spread.{spread-up, spread-down, more}
 use Rattle.drift.proofs.Errors.{parts, addD, err, Both}

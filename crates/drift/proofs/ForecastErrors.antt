@@ -18,7 +18,7 @@ use Rattle.state.specs.declared.State.{State}
 use Rattle.state.proofs.Tests.{both, model-law, valid-small}
 use Rattle.state.proofs.Rounding.{share-error, share-one, share-none}
 use Rattle.state.proofs.Passing.{passed, bounded}
-use Rattle.ets.specs.Forecasts.{trendAt, trendLine, seasonAt, forecastOf}
+use Rattle.forecasts.specs.Forecasts.{trendAt, trendLine, seasonAt, forecastOf}
 use Rattle.drift.specs.Exact.{parametersOf, opened, exactTrendAt, exactLine, exactForecast}
 use Rattle.drift.specs.Limits.{AtMost}
 use Rattle.drift.specs.ForecastErrors.{exactFrom, DampedBound, ForecastErrors}

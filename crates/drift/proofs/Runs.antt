@@ -13,7 +13,7 @@ use Rattle.state.specs.declared.State.{State}
 use Rattle.state.proofs.Passing.{no-season}
 use Rattle.ets.specs.Steps.{stepCode, missingCode, afterReading, afterMissing}
 use Rattle.ets.specs.Batches.{Run, run, halted, preceded, takeCode, afterTake, batchCode, batchRun}
-use Rattle.ets.specs.Forecasts.{forecastOf, forecastList}
+use Rattle.forecasts.specs.Forecasts.{forecastOf, forecastList}
 use Rattle.ets.proofs.Kept.{reading-kept, missing-kept}
 use Rattle.traces.specs.Calls.{Call, Result, result}
 use Rattle.traces.proofs.Results.{by-code, Works, reads, misses, takes, forecasts-one, forecasts-all, works}

@@ -5,7 +5,7 @@ use lib.IntN.{ℤ, pos, _+ℤ_, _*ℤ_}
 use Rattle.state.specs.Models.{trendOf}
 use Rattle.state.specs.States.{check}
 use Rattle.state.specs.declared.State.{State}
-use Rattle.ets.specs.Forecasts.{seasonAt, forecastOf}
+use Rattle.forecasts.specs.Forecasts.{seasonAt, forecastOf}
 use Rattle.drift.specs.Exact.{parametersOf, opened, exactForecast}
 use Rattle.drift.specs.Limits.{AtMost}
 

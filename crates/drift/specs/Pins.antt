@@ -11,7 +11,7 @@ use Rattle.state.specs.Rejections.{truncated}
 use Rattle.state.specs.States.{stateOf}
 use Rattle.state.specs.declared.State.{State}
 use Rattle.ets.specs.Steps.{afterReading}
-use Rattle.ets.specs.Forecasts.{forecastOf}
+use Rattle.forecasts.specs.Forecasts.{forecastOf}
 use Rattle.snapshot.specs.InPlace.{inPlaceCode}
 use Rattle.traces.specs.Calls.{followed, cut, sliceOf, Call, Reading, Missing, Batch, Forecast, Forecasts, InPlaceReading, InPlaceMissing, InPlaceForecast, result, after}
 use Rattle.drift.specs.Exact.{Parameters, parametersOf, Exact, opened, exactReading, exactForecast, exactAfter, Expected, level-is, forecast-is, expected}

@@ -1,5 +1,4 @@
 pub mod Steps
 pub mod Batches
-pub mod Forecasts
 pub mod Updates
 pub mod Bounds

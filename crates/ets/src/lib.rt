@@ -1,7 +1,6 @@
 // The recursion of Hyndman's ETS models on a state by value: document 01, "One step" and "Forecast and variance".
 mod arithmetic;
 pub mod batches;
-pub mod forecasts;
 pub mod steps;
 pub mod updates;
 

@@ -11,7 +11,7 @@ use Rattle.state.specs.Rejections.{accepting}
 use Rattle.state.specs.States.{check}
 use Rattle.state.specs.declared.State.{State}
 use Rattle.ets.specs.Steps.{stepCode, missingCode, residualOf, afterReading, afterMissing, step, missing}
-use Rattle.ets.specs.Forecasts.{forecastCode, forecastOf}
+use Rattle.forecasts.specs.Forecasts.{forecastCode, forecastOf}
 use Rattle.ets.proofs.Kept.{cells-kept, reading-kept, missing-kept}
 use Rattle.snapshot.specs.Snapshots.{decoded, encoded}
 use Rattle.snapshot.specs.InPlace.{inPlaceCode, rejection, bytesAfter, numberAfter, inPlaceStepCode, inPlaceStepBytes, inPlaceResidual, inPlaceMissingCode, inPlaceMissingBytes, inPlaceForecastCode, inPlaceForecast}

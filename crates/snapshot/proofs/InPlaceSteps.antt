@@ -19,7 +19,7 @@ use Rattle.state.specs.declared.State.{State}
 use Rattle.state.proofs.Passing.{bounded, no-season, with-season}
 use Rattle.state.proofs.Tests.{both, then-zero, unless-zero}
 use Rattle.ets.specs.Steps.{termsOf, residualOf, newLevel, newTrend, newSeason, newSeasonal, nextIndex, afterReading, afterMissing, corrected, stepCode, missingCode}
-use Rattle.ets.specs.Forecasts.{seasonAt as seasonAhead}
+use Rattle.forecasts.specs.Forecasts.{seasonAt as seasonAhead}
 use Rattle.ets.specs.Updates.{numbersOf, corrections, update}
 use Rattle.ets.specs.declared.Numbers.{Numbers}
 use Rattle.ets.specs.declared.Update.{Update}

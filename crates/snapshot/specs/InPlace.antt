@@ -8,7 +8,7 @@ use Rattle.state.specs.Rejections.{unless, _then_, out-of-place, accepting, out
 use Rattle.state.specs.States.{noState}
 use Rattle.state.specs.declared.State.{State}
 use Rattle.ets.specs.Steps.{stepCode, missingCode, residualOf, afterReading, afterMissing}
-use Rattle.ets.specs.Forecasts.{forecastCode, forecastOf}
+use Rattle.forecasts.specs.Forecasts.{forecastCode, forecastOf}
 use Rattle.snapshot.specs.declared.Opened.{Opened}
 use Rattle.snapshot.specs.Snapshots.{openCode, openOffset, decoded, encoded}
 

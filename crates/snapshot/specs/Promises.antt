@@ -10,7 +10,7 @@ use Rattle.state.specs.States.{check}
 use Rattle.state.specs.declared.State.{State}
 use Rattle.state.specs.declared.Outcome.the-variants as outcome-of
 use Rattle.ets.specs.Steps.{stepCode, residualOf, missingCode, step, missing}
-use Rattle.ets.specs.Forecasts.{forecastCode, forecastOf}
+use Rattle.forecasts.specs.Forecasts.{forecastCode, forecastOf}
 use Rattle.snapshot.specs.Answers.{LengthCases}
 use Rattle.snapshot.specs.Bytes.{AreBytes}
 use Rattle.snapshot.specs.CommandTable.{commandSize}

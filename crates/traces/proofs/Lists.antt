@@ -11,8 +11,8 @@ use Rattle.state.specs.Fixed.{isSentinel}
 use Rattle.state.specs.declared.State.{State}
 use Rattle.ets.specs.Steps.{stepCode, missingCode, afterReading, afterMissing}
 use Rattle.ets.specs.Batches.{run, preceded, halted, takeCode, afterTake, batchCode, batchRun}
-use Rattle.ets.specs.Forecasts.{forecastCode, forecastOf, forecast}
-use Rattle.ets.proofs.ForecastLaws.{list-length}
+use Rattle.forecasts.specs.Forecasts.{forecastCode, forecastOf, forecast}
+use Rattle.forecasts.proofs.ForecastLaws.{list-length}
 use Rattle.ets.proofs.Kept.{reading-kept, missing-kept}
 use Rattle.snapshot.specs.Snapshots.{encoded, decoded}
 use Rattle.snapshot.proofs.RoundTrip.{accepted-passes, length-decoded, whole}

@@ -15,8 +15,8 @@ use Rattle.state.proofs.Answers.{outcome-code, answer-code}
 use Rattle.state.proofs.Tests.{then-zero}
 use Rattle.ets.specs.Steps.{stepCode, missingCode, residualOf, afterReading, afterMissing, step, missing}
 use Rattle.ets.specs.Batches.{batchRun, batch, batchLevels}
-use Rattle.ets.specs.Forecasts.{forecastCode, forecastOf, forecast, forecastList, forecastsCode, forecastCells, forecastTo, forecastCellsTo, forecastsTo}
-use Rattle.ets.proofs.ForecastLaws.{list-length}
+use Rattle.forecasts.specs.Forecasts.{forecastCode, forecastOf, forecast, forecastList, forecastsCode, forecastCells, forecastTo, forecastCellsTo, forecastsTo}
+use Rattle.forecasts.proofs.ForecastLaws.{list-length}
 use Rattle.ets.proofs.Kept.{cells-kept, reading-kept, missing-kept}
 use Rattle.snapshot.specs.Snapshots.{encoded, decoded}
 use Rattle.snapshot.specs.InPlace.{inPlaceCode, inPlaceStepCode, inPlaceStepBytes, inPlaceMissingCode, inPlaceMissingBytes, inPlaceForecastCode, inPlaceForecast}

@@ -16,7 +16,7 @@ use Rattle.state.specs.Rejections.{outcomeCode, answerCode, answerValue}
 use Rattle.state.specs.declared.State.{State}
 use Rattle.ets.specs.Steps.{step, missing}
 use Rattle.ets.specs.Batches.{batch, batchLevels}
-use Rattle.ets.specs.Forecasts.{forecast, forecasts, forecastCells}
+use Rattle.forecasts.specs.Forecasts.{forecast, forecasts, forecastCells}
 use Rattle.snapshot.specs.Snapshots.{encoded, decoded}
 use Rattle.snapshot.specs.InPlace.{inPlaceStepCode, inPlaceStepBytes, inPlaceMissingCode, inPlaceMissingBytes, inPlaceForecastCode, inPlaceForecast}
 

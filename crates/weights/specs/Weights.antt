@@ -7,7 +7,7 @@ use Rattle.state.specs.Fixed.{shareNat}
 use Rattle.state.specs.Rejections.{accepting}
 use Rattle.state.specs.Models.{trendOf, hasSeason}
 use Rattle.state.specs.declared.State.{State}
-use Rattle.ets.specs.Forecasts.{forecastCode}
+use Rattle.forecasts.specs.Forecasts.{forecastCode}
 use Rattle.weights.specs.declared.Weight.{Weight}
 use Rattle.weights.specs.declared.Weight.the-variants as weight-of
 use Rattle.weights.specs.declared.Variance.{Variance}

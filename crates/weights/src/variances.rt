@@ -3,7 +3,7 @@ use super::Variance;
 use super::Weight;
 use super::sums::product;
 use super::sums::weight_of;
-use ets::forecasts::forecast_code;
+use forecasts::forecast_code;
 use state::State;
 ghost use mathlib.Core.Path.{_≡_};
 ghost use Prim.Native.Nat.{ℕ};

@@ -4,7 +4,7 @@ use Rattle.snapshot.specs.InPlace.{inPlaceCode}
 use Rattle.bench_calls.proofs.Opened.{code-is, state-is}
 use Rattle.state.specs.Rejections.{outcomeCode}
 use Rattle.state.proofs.Answers.{outcome-code}
-use Rattle.ets.specs.Forecasts.{forecastsTo}
+use Rattle.forecasts.specs.Forecasts.{forecastsTo}
 use Rattle.bench_calls.specs.Snapshots.{allCode, allCells}
 use borrow.Author.Needs.{needs}
 use Rattle.bench_calls.proofs.bench_forecasts.Statement.{statement}

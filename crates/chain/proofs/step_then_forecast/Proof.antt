@@ -6,7 +6,7 @@ use Rattle.state.specs.declared.State.{State}
 use Rattle.state.specs.declared.Answer.{Answer}
 use Rattle.ets.specs.declared.Stepped.{Stepped}
 use Rattle.ets.specs.Steps.{step}
-use Rattle.ets.specs.Forecasts.{forecast}
+use Rattle.forecasts.specs.Forecasts.{forecast}
 use Rattle.traces.specs.Calls.{Reading}
 use Rattle.chain.specs.Chains.{ForecastWithin}
 use Rattle.chain.proofs.Chains.{directly}

@@ -8,9 +8,9 @@ use mir.ValLaws.{toZ-ofZ}
 use Rattle.integers.proofs.Difference.{back}
 use Rattle.state.specs.declared.State.{State}
 use Rattle.state.proofs.Answers.{answer-rejected, answer-accepted}
-use Rattle.ets.specs.Forecasts.{trendLine, forecastCode, forecastFromCode, forecastFrom, forecastOf}
+use Rattle.forecasts.specs.Forecasts.{trendLine, forecastCode, forecastFromCode, forecastFrom, forecastOf}
 use Rattle.ets.specs.declared.Numbers.{Numbers}
-use Rattle.ets.proofs.ForecastLaws.{from-code, forecast-ready}
+use Rattle.forecasts.proofs.ForecastLaws.{from-code, forecast-ready}
 use Rattle.snapshot.specs.Snapshots.{openCode, decoded}
 use Rattle.snapshot.specs.InPlace.{inPlaceForecastCode, inPlaceForecast}
 use Rattle.snapshot.specs.Facts.{aheadIn, Held}

@@ -26,8 +26,8 @@ use Rattle.state.proofs.Tests.{both, then-zero, unless-zero}
 use Rattle.state.proofs.Rounding.{share-within}
 use Rattle.state.specs.Valid.{Valid}
 use Rattle.state.proofs.Passing.{bounded, range-in}
 use Rattle.ets.specs.Steps.{nextIndex}
-use Rattle.ets.specs.Forecasts.{trendAt, trendLine, seasonAt, horizonOk, forecastCodeTo, forecastCode, forecastFromCode, forecastOf, forecastList}
+use Rattle.forecasts.specs.Forecasts.{trendAt, trendLine, seasonAt, horizonOk, forecastCodeTo, forecastCode, forecastFromCode, forecastOf, forecastList}
 
 -- the horizon of a forecast that is not rejected
 pub record Ready (limit : ℕ) (s : State) (h : ℕ) : Type 0 where

@@ -8,10 +8,10 @@ use mir.Val.{toZ, ofZ}
 use mir.Facts.{toZ-ofZ}
 use borrow.Author.Needs.{needs}
 use Rattle.integers.specs.Bounds.{Within}
-use Rattle.ets.specs.Forecasts.{trendAt, trendLine}
-use Rattle.ets.proofs.ForecastLaws.{Turn, turn, trend-bound, line-bound}
-use Rattle.ets.proofs.forecasts.trend_line.Statement.{statement}
-use Rattle.ets.proofs.forecasts.trend_line.Tie as tie
+use Rattle.forecasts.specs.Forecasts.{trendAt, trendLine}
+use Rattle.forecasts.proofs.ForecastLaws.{Turn, turn, trend-bound, line-bound}
+use Rattle.forecasts.proofs.sums.trend_line.Statement.{statement}
+use Rattle.forecasts.proofs.sums.trend_line.Tie as tie
 
 abbrev Inv-loop : tie.InvT-loop
 Inv-loop level phi trend h line₀ d₀ j₀ line d j =

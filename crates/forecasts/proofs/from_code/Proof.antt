@@ -1,8 +1,8 @@
 use mir.Facts.{toZ-ofZ}
 use Rattle.state.proofs.Tests.{then-assoc}
 use borrow.Author.Needs.{needs}
-use Rattle.ets.proofs.forecasts.from_code.Statement.{statement}
-use Rattle.ets.proofs.forecasts.from_code.Tie as tie
+use Rattle.forecasts.proofs.from_code.Statement.{statement}
+use Rattle.forecasts.proofs.from_code.Tie as tie
 
 in-range-requires : tie.Need-in-range-requires
 in-range-requires c κs = search needs

@@ -1,7 +1,7 @@
-use Rattle.ets.specs.Forecasts.{forecastCodeTo}
+use Rattle.forecasts.specs.Forecasts.{forecastCodeTo}
 use borrow.Author.Needs.{needs}
-use Rattle.ets.proofs.forecasts.forecast_code_to.Statement.{statement}
-use Rattle.ets.proofs.forecasts.forecast_code_to.Tie as tie
+use Rattle.forecasts.proofs.forecast_code_to.Statement.{statement}
+use Rattle.forecasts.proofs.forecast_code_to.Tie as tie
 
 check-requires : tie.Need-check-requires
 check-requires c κs = search needs

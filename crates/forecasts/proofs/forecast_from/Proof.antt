@@ -14,10 +14,10 @@ use Rattle.integers.proofs.Bounds.{within-add, within-fits}
 use Rattle.state.specs.Fixed.{inRange}
 use Rattle.state.proofs.Tests.{both, unless-zero, unless-then}
 use Rattle.state.proofs.Passing.{in-range}
-use Rattle.ets.specs.Forecasts.{forecastFromCode, forecastFrom}
+use Rattle.forecasts.specs.Forecasts.{forecastFromCode, forecastFrom}
 use borrow.Author.Needs.{needs}
-use Rattle.ets.proofs.forecasts.forecast_from.Statement.{statement}
-use Rattle.ets.proofs.forecasts.forecast_from.Tie as tie
+use Rattle.forecasts.proofs.forecast_from.Statement.{statement}
+use Rattle.forecasts.proofs.forecast_from.Tie as tie
 
 code : (c : tie.After-from-code) → let s = c .before .args in forecastFromCode (s .level) (s .phi) (s .trend) (s .season) (s .h) ≡ c .from-code .result
 code c =

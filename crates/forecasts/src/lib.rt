@@ -1,6 +1,6 @@
-// Forecasts from a state by value: for one horizon, and for all of them into a lent buffer.
-use super::arithmetic::next_index;
-use super::arithmetic::share;
+// Forecasts from a state by value: for one horizon, and for all of them into a lent buffer. Document 01, "Forecast and variance".
+mod sums;
+
 use state::Answer;
 use state::BAD_HORIZON;
 use state::BAD_PARAMETER;
@@ -12,15 +12,14 @@ use state::State;
 use state::checks::check;
 use state::checks::in_range;
 use state::first;
-use state::models::has_season;
 use state::unless;
+use sums::fill;
+use sums::season_at;
+use sums::trend_line;
 ghost use mathlib.Core.Path.{_≡_};
-ghost use mathlib.Core.List.{_++_};
 ghost use Prim.Native.Nat.{_≤_};
-ghost use lib.ListN.{length, drop};
-ghost use Rattle.integers.specs.Bounds.{Within};
-ghost use Rattle.state.specs.Valid.{Valid};
-ghost use Rattle.ets.specs.Forecasts.{horizonOk, trendLine, seasonAt, forecastCodeTo, forecastTo, forecastList, forecastsTo, forecastCellsTo, forecastCode, forecast, forecasts, forecastCells, forecastFromCode, forecastFrom};
+ghost use lib.ListN.{length};
+ghost use Rattle.forecasts.specs.Forecasts.{horizonOk, forecastCodeTo, forecastTo, forecastsTo, forecastCellsTo, forecastCode, forecast, forecasts, forecastCells, forecastFromCode, forecastFrom};
 
 // The longest horizon.
 const MAX_HORIZON: u32 = 512;
@@ -44,35 +43,6 @@ pub fn forecast_code(s: State, h: u32) -> u8
     forecast_code_to(MAX_HORIZON, s, h)
 }
 
-// The level and the trends of h steps.
-fn trend_line(level: i64, phi: u32, trend: i64, h: u32) -> i64
-    requires { ⌜ (phi ≤ 65536) × Within 1099511627776 level × Within 1099511627776 trend × (h ≤ 512) ⌝ }
-    ensures value { λ r. ⌜ r ≡ trendLine level phi trend h ⌝ }
-    ensures bound { λ r. ⌜ Within 564049465049088 r ⌝ }
-{
-    let mut line = level;
-    let mut d = trend;
-    for j in 0..h {
-        d = share(phi, d);
-        line = line + d;
-    }
-    line
-}
-
-fn season_at(s: State, h: u32) -> i64
-    requires { ⌜ Valid s × (1 ≤ h) × (h ≤ 512) ⌝ }
-    ensures value { λ r. ⌜ r ≡ seasonAt s h ⌝ }
-    ensures bound { λ r. ⌜ Within 1099511627776 r ⌝ }
-{
-    if !has_season(s.model) {
-        return 0;
-    }
-    let p = s.index as u32;
-    let m = s.period as u32;
-    let k = ((p + h - 1) % m) as usize;
-    s.seasonal[k]
-}
-
 fn forecast_to(limit: u32, s: State, h: u32) -> Answer
     requires { ⌜ limit ≤ 512 ⌝ }
     ensures { λ r. ⌜ r ≡ forecastTo limit s h ⌝ }
@@ -89,26 +59,6 @@ pub fn forecast(s: State, h: u32) -> Answer
     ensures { λ r. ⌜ r ≡ forecast s h ⌝ }
 {
     forecast_to(MAX_HORIZON, s, h)
-}
-
-// The forecasts for the horizons 1 to h: the trend and the seasonal index move on from one to the next.
-fn fill(s: State, h: usize, values: &mut [i64])
-    requires { ⌜ Valid s × (h ≤ 512) × (h ≤ length (now values)) ⌝ }
-    ensures { λ _. ⌜ now (values .exit) ≡ forecastList s h ++ drop h (now (values .entry)) ⌝ }
-{
-    let mut line = s.level;
-    let mut d = s.trend;
-    let mut p = s.index;
-    let mut i = 0;
-    while i < h {
-        d = share(s.phi, d);
-        line = line + d;
-        let k = p as usize;
-        let season = s.seasonal[k];
-        values[i] = line + season;
-        p = next_index(s.period, p);
-        i += 1;
-    }
 }
 
 fn forecasts_to(limit: u32, s: State, h: u32, values: &mut [i64]) -> Outcome

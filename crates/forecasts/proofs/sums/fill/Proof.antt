@@ -13,10 +13,10 @@ use borrow.Author.Needs.{needs}
 use Rattle.integers.proofs.Difference.{back}
 use Rattle.integers.proofs.Bounds.{within-add, within-fits}
 use Rattle.state.specs.Valid.{Bounded}
-use Rattle.ets.specs.Forecasts.{trendAt, trendLine, seasonAt, forecastOf, forecastList}
-use Rattle.ets.proofs.ForecastLaws.{Turn, turn, trend-bound, line-bound, ahead, ahead-small, season-ahead, list-more}
-use Rattle.ets.proofs.forecasts.fill.Statement.{statement}
-use Rattle.ets.proofs.forecasts.fill.Tie as tie
+use Rattle.forecasts.specs.Forecasts.{trendAt, trendLine, seasonAt, forecastOf, forecastList}
+use Rattle.forecasts.proofs.ForecastLaws.{Turn, turn, trend-bound, line-bound, ahead, ahead-small, season-ahead, list-more}
+use Rattle.forecasts.proofs.sums.fill.Statement.{statement}
+use Rattle.forecasts.proofs.sums.fill.Tie as tie
 
 abbrev Inv-loop : tie.InvT-loop
 Inv-loop h values₀ s line₀ d₀ p₀ i₀ values line d p i =

@@ -10,10 +10,10 @@ use Rattle.integers.proofs.Difference.{back}
 use Rattle.integers.proofs.Bounds.{within-add, within-fits, within-back}
 use Rattle.state.specs.Valid.{Valid}
 use Rattle.state.proofs.Passing.{valid}
-use Rattle.ets.specs.Forecasts.{forecastOf, forecastTo}
-use Rattle.ets.proofs.ForecastLaws.{Ready, forecast-ready}
-use Rattle.ets.proofs.forecasts.forecast_to.Statement.{statement}
-use Rattle.ets.proofs.forecasts.forecast_to.Tie as tie
+use Rattle.forecasts.specs.Forecasts.{forecastOf, forecastTo}
+use Rattle.forecasts.proofs.ForecastLaws.{Ready, forecast-ready}
+use Rattle.forecasts.proofs.forecast_to.Statement.{statement}
+use Rattle.forecasts.proofs.forecast_to.Tie as tie
 
 ready : (c : tie.Else1) → let s = c .before .before .args in Ready (s .limit) (s .s) (s .h)
 ready c = forecast-ready _ _ _ (sym (c .before .forecast-code-to .ensures) ∙ c .if1 .left)

@@ -5,10 +5,10 @@ use borrow.Author.Needs.{needs}
 use borrow.Author.Tests.{ne-eqb, leb-true}
 use Rattle.state.proofs.Passing.{valid}
 use Rattle.state.proofs.Tests.{then-zero, unless-zero}
-use Rattle.ets.specs.Forecasts.{forecastsCodeTo, forecastsTo, forecastCellsTo}
-use Rattle.ets.proofs.ForecastLaws.{forecast-ready}
-use Rattle.ets.proofs.forecasts.forecasts_to.Statement.{statement}
-use Rattle.ets.proofs.forecasts.forecasts_to.Tie as tie
+use Rattle.forecasts.specs.Forecasts.{forecastsCodeTo, forecastsTo, forecastCellsTo}
+use Rattle.forecasts.proofs.ForecastLaws.{forecast-ready}
+use Rattle.forecasts.proofs.forecasts_to.Statement.{statement}
+use Rattle.forecasts.proofs.forecasts_to.Tie as tie
 
 code : (c : tie.After-first) → let s = c .before .before .before .args in c .first .result ≡ forecastsCodeTo (s .limit) (s .s) (s .h) (length (s .values .now))
 unfolding forecastsCodeTo

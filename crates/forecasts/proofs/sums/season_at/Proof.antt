@@ -9,10 +9,10 @@ use Rattle.integers.proofs.Difference.{back}
 use Rattle.integers.proofs.Bounds.{within-zero}
 use Rattle.state.specs.Models.{hasSeason}
 use Rattle.state.specs.Valid.{Seasonal}
-use Rattle.ets.specs.Forecasts.{seasonAt}
+use Rattle.forecasts.specs.Forecasts.{seasonAt}
 use borrow.Author.Needs.{needs}
-use Rattle.ets.proofs.forecasts.season_at.Statement.{statement}
-use Rattle.ets.proofs.forecasts.season_at.Tie as tie
+use Rattle.forecasts.proofs.sums.season_at.Statement.{statement}
+use Rattle.forecasts.proofs.sums.season_at.Tie as tie
 
 seasonal : (c : tie.Else1) → hasSeason (c .before .before .args .t1 .model) ≡ true
 seasonal c = sym (c .before .has-season .ensures) ∙ not-false _ (c .if1 .left)
