@@ -1,7 +1,8 @@
 -- T1 to T12: each row of the table holds, since both sides compute to the same.
 use mathlib.Core.Path.{refl}
 use Rattle.state.specs.Fixed.{R, share}
-use Rattle.state.specs.States.{allBelow, check}
+use Rattle.integers.specs.Below.{allBelow}
+use Rattle.state.specs.States.{check}
 use Rattle.ets.specs.Steps.{dampedTrend, seasonDue, residual, newLevel, newTrend, newSeason, newSeasonal, nextIndex, missingCode, stepCode, step, missing}
 use Rattle.forecasts.specs.Forecasts.{trendAt, trendLine, seasonAt, forecastOf, forecastCodeTo, forecastTo}
 use Rattle.weights.specs.Weights.{dampingSum, trendTerm, seasonTerm, coefficient, squares, weightOf, weight, variance}

@@ -16,7 +16,8 @@ use Rattle.state.specs.States.{check}
 use Rattle.state.specs.declared.State.{State}
 use Rattle.state.specs.declared.Outcome.{Outcome}
 use Rattle.state.specs.declared.Outcome.the-variants as outcome-of
-use Rattle.state.proofs.Tests.{cond-elim, both, then-zero, unless-zero}
+use Rattle.integers.proofs.Tests.{cond-elim, both}
+use Rattle.state.proofs.Tests.{then-zero, unless-zero}
 use Rattle.ets.specs.Steps.{step, stepCode, residualOf, missing, missingCode}
 use Rattle.forecasts.specs.Forecasts.{forecastTo, forecastCode, forecastOf}
 use Rattle.ets.proofs.Kept.{cells-kept, reading-kept, missing-kept}

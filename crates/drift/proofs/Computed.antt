@@ -8,7 +8,8 @@ use lib.IntN.{ℤ, pos}
 use lib.ListN.{getD-replicate}
 use borrow.Author.Tests.{eq-eqb}
 use Rattle.state.specs.Fixed.{R, share}
-use Rattle.state.specs.States.{check, allBelow}
+use Rattle.integers.specs.Below.{allBelow}
+use Rattle.state.specs.States.{check}
 use Rattle.ets.specs.Steps.{dampedTrend, seasonDue, newLevel, newTrend, newSeason, newSeasonal, nextIndex, stepCode, missingCode, step, missing, residual}
 use Rattle.ets.specs.Batches.{takeCode, afterTake, run, batchRun, batch, batchLevels}
 use Rattle.forecasts.specs.Forecasts.{trendAt, trendLine, seasonAt, forecastOf, forecastList, forecastTo, forecastCellsTo, forecastsTo, forecastCodeTo, forecastsCodeTo}

@@ -9,7 +9,7 @@ use native.Mathlib.Omega.{arith}
 use lib.IntN.{ℤ, pos, negsuc, negℤ, natAbs, _+ℤ_, _-ℤ_, _*ℤ_, zero-*ℤ}
 use lib.ListN.{getD}
 use Rattle.integers.proofs.Difference.{diff, known, sum, minus, scaled}
-use Rattle.state.specs.Models.{hasSeason}
+use Rattle.models.specs.Models.{hasSeason}
 use Rattle.state.specs.declared.State.{State}
 use Rattle.forecasts.specs.Forecasts.{seasonAt, forecastOf}
 use Rattle.drift.proofs.Averages.{D, zeroD, Same}

@@ -12,10 +12,11 @@ use Rattle.integers.specs.Bounds.{Within}
 use Rattle.integers.proofs.Difference.{diff, ints, known, sum, scaled}
 use Rattle.integers.proofs.Bounds.{within-zero, within-add, within-mul, within-parts}
 use Rattle.state.specs.Fixed.{share}
-use Rattle.state.specs.Models.{trendOf, hasSeason, validModel, dampingOk}
+use Rattle.models.specs.Models.{trendOf, hasSeason, validModel, dampingOk}
 use Rattle.state.specs.States.{check}
 use Rattle.state.specs.declared.State.{State}
-use Rattle.state.proofs.Tests.{both, model-law, valid-small}
+use Rattle.integers.proofs.Tests.{both}
+use Rattle.models.proofs.ModelLaws.{model-law, valid-small}
 use Rattle.state.proofs.Rounding.{share-error, share-one, share-none}
 use Rattle.state.proofs.Passing.{passed, bounded}
 use Rattle.forecasts.specs.Forecasts.{trendAt, trendLine, seasonAt, forecastOf}

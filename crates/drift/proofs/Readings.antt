@@ -12,7 +12,7 @@ use lib.Seq.{getD-set-same, getD-set-other}
 use borrow.Author.Tests.{eq-eqb, ne-eqb}
 use Rattle.integers.proofs.Difference.{diff, known, up, dn, sum, scaled}
 use Rattle.state.specs.Fixed.{share}
-use Rattle.state.specs.Models.{hasTrend, hasSeason}
+use Rattle.models.specs.Models.{hasTrend, hasSeason}
 use Rattle.state.specs.declared.State.{State}
 use Rattle.state.proofs.Rounding.{share-none}
 use Rattle.ets.specs.Steps.{termsOf, dampedTrend, seasonDue, residualOf, newLevel, newSeason, newSeasonal, corrected, afterReading, residual}

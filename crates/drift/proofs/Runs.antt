@@ -8,7 +8,7 @@ use lib.Dec.{eqb}
 use lib.IntN.{ℤ, pos}
 use lib.ListN.{length, take, getD}
 use Rattle.state.specs.Fixed.{isSentinel}
-use Rattle.state.specs.Models.{hasSeason}
+use Rattle.models.specs.Models.{hasSeason}
 use Rattle.state.specs.declared.State.{State}
 use Rattle.state.proofs.Passing.{no-season}
 use Rattle.ets.specs.Steps.{stepCode, missingCode, afterReading, afterMissing}

@@ -13,7 +13,7 @@ use Rattle.integers.specs.Bounds.{Within}
 use Rattle.integers.proofs.Difference.{diff, known, up, dn, scaled}
 use Rattle.integers.proofs.Bounds.{within-zero, within-add, within-sub, within-mul, within-parts}
 use Rattle.state.specs.Fixed.{share}
-use Rattle.state.specs.Models.{hasTrend, hasSeason}
+use Rattle.models.specs.Models.{hasTrend, hasSeason}
 use Rattle.state.specs.States.{check}
 use Rattle.state.specs.declared.State.{State}
 use Rattle.state.proofs.Passing.{bounded, no-season}

@@ -7,7 +7,7 @@ use lib.Dec.{eqb}
 use lib.IntN.{ℤ, pos, _+ℤ_, _-ℤ_, _*ℤ_}
 use lib.ListN.{getD, take}
 use Rattle.state.specs.Fixed.{isSentinel}
-use Rattle.state.specs.Models.{hasTrend, hasSeason}
+use Rattle.models.specs.Models.{hasTrend, hasSeason}
 use Rattle.state.specs.declared.State.{State}
 use Rattle.ets.specs.Steps.{nextIndex}
 use Rattle.traces.specs.Calls.{Event, observed, unobserved, series, horizon, horizons}

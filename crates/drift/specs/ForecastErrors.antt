@@ -2,7 +2,7 @@
 use Prim.Native.Nat.{ℕ, _+_, _*_, _^_}
 use mathlib.Core.Path.{_≡_}
 use lib.IntN.{ℤ, pos, _+ℤ_, _*ℤ_}
-use Rattle.state.specs.Models.{trendOf}
+use Rattle.models.specs.Models.{trendOf}
 use Rattle.state.specs.States.{check}
 use Rattle.state.specs.declared.State.{State}
 use Rattle.forecasts.specs.Forecasts.{seasonAt, forecastOf}

@@ -19,10 +19,11 @@ use Rattle.integers.specs.Bounds.{Within}
 use Rattle.integers.proofs.Difference.{back}
 use Rattle.integers.proofs.Bounds.{within-le, within-add, within-fits}
 use Rattle.state.specs.Fixed.{share}
-use Rattle.state.specs.Models.{hasSeason}
+use Rattle.models.specs.Models.{hasSeason}
 use Rattle.state.specs.States.{check}
 use Rattle.state.specs.declared.State.{State}
-use Rattle.state.proofs.Tests.{both, then-zero, unless-zero}
+use Rattle.integers.proofs.Tests.{both}
+use Rattle.state.proofs.Tests.{then-zero, unless-zero}
 use Rattle.state.proofs.Rounding.{share-within}
 use Rattle.state.specs.Valid.{Valid}
 use Rattle.state.proofs.Passing.{bounded, range-in}

@@ -7,7 +7,7 @@ use lib.IntN.{ℤ, pos, _+ℤ_}
 use lib.ListN.{length, drop, getD}
 use Rattle.state.specs.Rejections.{unless, _then_, accepting, outcome, answer, bad-parameter, bad-value, bad-horizon, short-buffer}
 use Rattle.state.specs.Fixed.{share, inRange}
-use Rattle.state.specs.Models.{hasSeason}
+use Rattle.models.specs.Models.{hasSeason}
 use Rattle.state.specs.States.{check}
 use Rattle.state.specs.declared.State.{State}
 use Rattle.state.specs.declared.Answer.{Answer}

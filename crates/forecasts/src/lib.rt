@@ -1,11 +1,11 @@
 // Forecasts from a state by value: for one horizon, and for all of them into a lent buffer. Document 01, "Forecast and variance".
 mod sums;
 
+use models::ONE;
 use state::Answer;
 use state::BAD_HORIZON;
 use state::BAD_PARAMETER;
 use state::BAD_VALUE;
-use state::ONE;
 use state::Outcome;
 use state::SHORT_BUFFER;
 use state::State;

@@ -1,7 +1,7 @@
 // The sums of a forecast, from a state that passed its checks.
 use ets::next_index;
+use models::has_season;
 use state::State;
-use state::models::has_season;
 ghost use mathlib.Core.Path.{_≡_};
 ghost use mathlib.Core.List.{_++_};
 ghost use Prim.Native.Nat.{_≤_};

@@ -1,2 +1,3 @@
 pub mod Difference
 pub mod Bounds
+pub mod Tests

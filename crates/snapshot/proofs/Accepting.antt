@@ -10,10 +10,11 @@ use lib.Dec.{eqb, ltb, eqb·suc-zero}
 use lib.ListN.{length, getD}
 use Rattle.state.specs.Rejections.{unless, unknown-command, out-of-place, truncated}
 use Rattle.state.specs.Fixed.{inRange}
-use Rattle.state.specs.Models.{hasSeason, validModel, periodOk, parametersOk}
+use Rattle.models.specs.Models.{hasSeason, validModel, periodOk, parametersOk}
 use Rattle.state.specs.States.{trendOk, indexOk, countOk}
 use Rattle.state.proofs.Passing.{period-le}
-use Rattle.state.proofs.Tests.{both, unless-zero, then-zero}
+use Rattle.integers.proofs.Tests.{both}
+use Rattle.state.proofs.Tests.{unless-zero, then-zero}
 use Rattle.snapshot.specs.CommandTable.{commandSize, isCommand, modelLength, levelLength, seasonLength, positionLength}
 use Rattle.snapshot.specs.Layout.{modelAt, levelAt, seasonAt, positionAt, sizeOf, modelIn, periodIn, alphaIn, betaIn, gammaIn, phiIn, levelIn, trendIn, seasonIndexIn, seasonIn, indexIn, countIn}
 use Rattle.snapshot.specs.Snapshots.{dueCode, modelCode, levelCode, seasonCode, positionCode, finished, scanPosition, scanSeasons, scan, openCode, openOffset}

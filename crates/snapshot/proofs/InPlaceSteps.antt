@@ -13,11 +13,12 @@ use Rattle.integers.specs.Bounds.{Within}
 use Rattle.integers.proofs.Bounds.{within-zero}
 use Rattle.state.specs.Rejections.{unless, out-of-place, count-full}
 use Rattle.state.specs.Fixed.{maxCount}
-use Rattle.state.specs.Models.{hasSeason}
+use Rattle.models.specs.Models.{hasSeason}
 use Rattle.state.specs.States.{check, indexOk, countOk}
 use Rattle.state.specs.declared.State.{State}
 use Rattle.state.proofs.Passing.{bounded, no-season, with-season}
-use Rattle.state.proofs.Tests.{both, then-zero, unless-zero}
+use Rattle.integers.proofs.Tests.{both}
+use Rattle.state.proofs.Tests.{then-zero, unless-zero}
 use Rattle.ets.specs.Steps.{termsOf, residualOf, newLevel, newTrend, newSeason, newSeasonal, nextIndex, afterReading, afterMissing, corrected, stepCode, missingCode}
 use Rattle.forecasts.specs.Forecasts.{seasonAt as seasonAhead}
 use Rattle.ets.specs.Updates.{numbersOf, corrections, update}

@@ -10,7 +10,7 @@ use lib.Dec.{eqb, ltb, leb, eqb·suc-zero}
 use lib.ListN.{length, getD}
 use Rattle.state.specs.Rejections.{unless, _then_, truncated, unknown-command, out-of-place}
 use Rattle.state.specs.Fixed.{inRange}
-use Rattle.state.specs.Models.{validModel, periodOk, parametersOk}
+use Rattle.models.specs.Models.{validModel, periodOk, parametersOk}
 use Rattle.state.specs.States.{trendOk, indexOk, countOk}
 use Rattle.snapshot.specs.CommandTable.{commandSize, isCommand}
 use Rattle.snapshot.specs.Layout.{modelAt, levelAt, seasonAt, positionAt, sizeOf, modelIn, periodIn, alphaIn, betaIn, gammaIn, phiIn, levelIn, trendIn, seasonIndexIn, seasonIn, indexIn, countIn}

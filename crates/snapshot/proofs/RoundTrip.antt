@@ -18,7 +18,9 @@ use Rattle.integers.proofs.Bounds.{within-fits}
 use Rattle.state.specs.Fixed.{inRange, isZero}
 use Rattle.state.specs.States.{check, cellOk}
 use Rattle.state.specs.declared.State.{State}
-use Rattle.state.proofs.Tests.{both, model-again, allBelow-at, allBelow-all, zero-is}
+use Rattle.integers.proofs.Tests.{both, allBelow-at, allBelow-all}
+use Rattle.models.proofs.ModelLaws.{model-again}
+use Rattle.state.proofs.Tests.{zero-is}
 use Rattle.state.specs.Valid.{Bounded}
 use Rattle.state.proofs.Passing.{Passed, passed, passes, bounded, no-state}
 use Rattle.snapshot.specs.Bytes.{AreBytes, toBytes, signedBytes, unsignedAt}

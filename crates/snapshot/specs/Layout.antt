@@ -4,7 +4,7 @@ use Prim.Native.Nat.{ℕ, zero, suc, _+_, _*_}
 use mathlib.Core.List.{List, [], _∷_, _++_}
 use lib.IntN.{ℤ, pos}
 use lib.ListN.{getD}
-use Rattle.state.specs.Models.{modelByte}
+use Rattle.models.specs.Models.{modelByte}
 use Rattle.snapshot.specs.Bytes.{unsignedAt, signedAt, toBytes, signedBytes}
 use Rattle.snapshot.specs.CommandTable.{modelLength, levelLength, seasonLength, positionLength}
 

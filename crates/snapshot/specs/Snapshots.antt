@@ -8,7 +8,7 @@ use lib.ListN.{length, drop, getD, set, replicate}
 use lib.Seq.{sets}
 use Rattle.state.specs.Rejections.{unless, _then_, outcome, unknown-command, out-of-place, truncated, bad-model, bad-period, bad-parameter, wrong-index, bad-value, bad-position, short-buffer, accepting}
 use Rattle.state.specs.Fixed.{inRange}
-use Rattle.state.specs.Models.{validModel, periodOk, parametersOk}
+use Rattle.models.specs.Models.{validModel, periodOk, parametersOk}
 use Rattle.state.specs.States.{trendOk, indexOk, countOk, check, noState}
 use Rattle.state.specs.declared.State.{State}
 use Rattle.state.specs.declared.Outcome.{Outcome}

@@ -13,11 +13,12 @@ use Rattle.integers.proofs.Difference.{ints}
 use Rattle.integers.proofs.Bounds.{within-zero}
 use Rattle.state.specs.Rejections.{_then_}
 use Rattle.state.specs.Fixed.{within, inRange, isReading, isZero, maxCount}
-use Rattle.state.specs.Models.{trendOf, hasTrend, hasSeason, validModel, periodOk, gainOk, dampingOk}
+use Rattle.models.specs.Models.{trendOf, hasTrend, hasSeason, validModel, periodOk, gainOk, dampingOk}
 use Rattle.state.specs.States.{trendOk, cellOk, seasonalOk, indexOk, countOk, check, noState}
 use Rattle.state.specs.Valid.{Bounded, NoTrend, NoSeason, Seasonal, Valid}
 use Rattle.state.specs.declared.State.{State}
-use Rattle.state.proofs.Tests.{both, unless-zero, then-zero, zero-is, allBelow-at}
+use Rattle.integers.proofs.Tests.{both, allBelow-at}
+use Rattle.state.proofs.Tests.{unless-zero, then-zero, zero-is}
 
 -- the checks as tests, in their order
 pub record Passed (s : State) : Type 0 where

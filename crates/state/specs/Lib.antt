@@ -1,6 +1,5 @@
 pub mod Rejections
 pub mod Fixed
-pub mod Models
 pub mod States
 pub mod Valid
 pub mod Rounding

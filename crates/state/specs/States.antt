@@ -1,13 +1,14 @@
 -- Document 01, "Grains and states": what a state holds, and the checks 5, 6, 7, 9 and 10 of a state handed in directly.
-use Prim.Native.Nat.{ℕ, zero, suc, _-_}
-use mathlib.Core.Bool.{Bool, true, cond, _&&_}
+use Prim.Native.Nat.{ℕ, _-_}
+use mathlib.Core.Bool.{Bool, cond, _&&_}
 use mathlib.Core.List.{List, [], _++_}
 use lib.Dec.{eqb, ltb, leb}
 use lib.IntN.{ℤ, pos}
 use lib.ListN.{getD, length, replicate}
 use Rattle.state.specs.Rejections.{unless, _then_, bad-model, bad-period, bad-parameter, bad-value, bad-position}
 use Rattle.state.specs.Fixed.{inRange, isZero, maxCount}
-use Rattle.state.specs.Models.{hasTrend, validModel, periodOk, parametersOk}
+use Rattle.integers.specs.Below.{allBelow}
+use Rattle.models.specs.Models.{hasTrend, validModel, periodOk, parametersOk}
 use Rattle.state.specs.declared.State.{State}
 
 -- a state by its numbers: model, m, A, B, G, F, l, b, the first season cells (the others are 0), p, count
@@ -55,11 +56,6 @@ trendOk model b = cond (hasTrend model) (inRange b) (isZero b)
 -- cell k of the season: in range, and 0 from m on
 abbrev pub cellOk : ℕ → ℕ → ℤ → Bool
 cellOk m k v = cond (ltb k m) (inRange v) (isZero v)
-
--- f holds of each number below n
-unfoldable pub allBelow : ℕ → (ℕ → Bool) → Bool
-allBelow zero f = true
-allBelow (suc n) f = allBelow n f && f n
 
 -- 48 season cells (those from m on are 0)
 abbrev pub seasonalOk : ℕ → List ℤ → Bool

@@ -6,7 +6,7 @@ use lib.IntN.{pos}
 use lib.ListN.{getD}
 use Rattle.integers.specs.Bounds.{Within}
 use Rattle.state.specs.Fixed.{maxCount}
-use Rattle.state.specs.Models.{hasTrend, hasSeason}
+use Rattle.models.specs.Models.{hasTrend, hasSeason}
 use Rattle.state.specs.declared.State.{State}
 
 -- what the sums and products of a call rest on

@@ -5,28 +5,18 @@ use super::BAD_PERIOD;
 use super::BAD_POSITION;
 use super::BAD_VALUE;
 use super::MAX_COUNT;
-use super::MAX_PERIOD;
 use super::MAX_VALUE;
-use super::ONE;
 use super::State;
 use super::first;
-use super::models::has_season;
-use super::models::has_trend;
-use super::models::model_ok;
-use super::models::trend_of;
 use super::unless;
+use models::has_trend;
+use models::model_ok;
+use models::parameters_ok;
+use models::period_ok;
+use models::pick;
 ghost use mathlib.Core.Path.{_≡_};
-ghost use mathlib.Core.Bool.{cond};
 ghost use Rattle.state.specs.Fixed.{isReading, isSentinel, inRange, isZero};
-ghost use Rattle.state.specs.Models.{periodOk, gainOk, dampingOk, parametersOk};
 ghost use Rattle.state.specs.States.{trendOk, cellOk, seasonalOk, valuesOk, indexOk, countOk, positionOk, check};
-
-// One of two, so that the tests below have no branch of their own.
-fn pick(b: bool, x: bool, y: bool) -> bool
-    ensures { λ r. ⌜ r ≡ cond b x y ⌝ }
-{
-    if b { x } else { y }
-}
 
 pub fn is_reading(y: i32) -> bool
     ensures { λ r. ⌜ r ≡ isReading y ⌝ }
@@ -51,37 +41,6 @@ fn is_zero(v: i64) -> bool
     ensures { λ r. ⌜ r ≡ isZero v ⌝ }
 {
     v == 0
-}
-
-pub fn period_ok(model: u8, m: u8) -> bool
-    ensures { λ r. ⌜ r ≡ periodOk model m ⌝ }
-{
-    pick(has_season(model), (2 <= m) & (m <= MAX_PERIOD), m == 0)
-}
-
-fn gain_ok(has: bool, x: u32) -> bool
-    ensures { λ r. ⌜ r ≡ gainOk has x ⌝ }
-{
-    pick(has, x <= ONE, x == 0)
-}
-
-fn damping_ok(trend: u8, f: u32) -> bool
-    ensures { λ r. ⌜ r ≡ dampingOk trend f ⌝ }
-{
-    pick(
-        trend == 0,
-        f == 0,
-        pick(trend == 1, f == ONE, (1 <= f) & (f <= 65535)),
-    )
-}
-
-pub fn parameters_ok(model: u8, a: u32, b: u32, g: u32, f: u32) -> bool
-    ensures { λ r. ⌜ r ≡ parametersOk model a b g f ⌝ }
-{
-    (a <= ONE)
-        & gain_ok(has_trend(model), b)
-        & gain_ok(has_season(model), g)
-        & damping_ok(trend_of(model), f)
 }
 
 pub fn trend_ok(model: u8, b: i64) -> bool

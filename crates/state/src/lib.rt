@@ -1,6 +1,5 @@
 // The forecaster's state by value and the checks of a state handed in: document 01, "Grains and states".
 pub mod checks;
-pub mod models;
 
 ghost use mathlib.Core.Path.{_≡_};
 ghost use Rattle.state.specs.Rejections.{unless, _then_, outcomeCode};
@@ -37,12 +36,6 @@ pub const BAD_READING: u8 = 13;
 pub const COUNT_FULL: u8 = 14;
 
 pub const LEAVES_RANGE: u8 = 15;
-
-// 1 in the 65,536ths that the parameters are counted in: the greatest of each.
-pub const ONE: u32 = 65536;
-
-// The longest season, and the cells that a state has for it.
-pub const MAX_PERIOD: u8 = 48;
 
 // 2^40: level, trend and season values are at most that, and at least its negative.
 pub const MAX_VALUE: i64 = 0x100_0000_0000;

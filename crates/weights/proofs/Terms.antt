@@ -7,7 +7,7 @@ use native.Mathlib.Nat.{mul-le-mul, mod-lt, mod-zero, mod-self, mod-eq-of-lt, su
 use lib.Dec.{eqb}
 use borrow.Author.Tests.{eqb-true, eqb-false}
 use Rattle.state.specs.Fixed.{shareNat}
-use Rattle.state.specs.Models.{trendOf, hasSeason}
+use Rattle.models.specs.Models.{trendOf, hasSeason}
 use Rattle.state.specs.Valid.{Valid}
 use Rattle.state.specs.declared.State.{State}
 use Rattle.weights.specs.Weights.{dampingSum, trendTerm, seasonTerm, coefficient, squares, weightOf}

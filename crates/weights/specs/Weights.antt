@@ -5,7 +5,7 @@ use mathlib.Core.Bool.{cond, _&&_}
 use lib.Dec.{eqb}
 use Rattle.state.specs.Fixed.{shareNat}
 use Rattle.state.specs.Rejections.{accepting}
-use Rattle.state.specs.Models.{trendOf, hasSeason}
+use Rattle.models.specs.Models.{trendOf, hasSeason}
 use Rattle.state.specs.declared.State.{State}
 use Rattle.forecasts.specs.Forecasts.{forecastCode}
 use Rattle.weights.specs.declared.Weight.{Weight}

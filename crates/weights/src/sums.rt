@@ -1,7 +1,7 @@
 // The arithmetic of a weight and its product with σ².
 use super::Variance;
+use models::trend_of;
 use state::State;
-use state::models::trend_of;
 ghost use Prim.Native.Nat.{_+_, _*_, _/_, _%_, _≤_};
 ghost use mathlib.Core.Path.{_≡_};
 ghost use mathlib.Core.Bool.{cond};

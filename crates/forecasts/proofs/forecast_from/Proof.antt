@@ -12,7 +12,8 @@ use Rattle.integers.specs.Bounds.{Within}
 use Rattle.integers.proofs.Difference.{back}
 use Rattle.integers.proofs.Bounds.{within-add, within-fits}
 use Rattle.state.specs.Fixed.{inRange}
-use Rattle.state.proofs.Tests.{both, unless-zero, unless-then}
+use Rattle.integers.proofs.Tests.{both}
+use Rattle.state.proofs.Tests.{unless-zero, unless-then}
 use Rattle.state.proofs.Passing.{in-range}
 use Rattle.forecasts.specs.Forecasts.{forecastFromCode, forecastFrom}
 use borrow.Author.Needs.{needs}

@@ -1,7 +1,8 @@
 -- `commands::promises::listing` meets its contract: antt computes the text.
 use mathlib.Core.Path.{refl}
 use Rattle.state.specs.Fixed.{R, share}
-use Rattle.state.specs.States.{allBelow, check, noState}
+use Rattle.integers.specs.Below.{allBelow}
+use Rattle.state.specs.States.{check, noState}
 use Rattle.ets.specs.Steps.{dampedTrend, seasonDue, residual, newLevel, newTrend, newSeason, newSeasonal, nextIndex, missingCode, stepCode, step}
 use Rattle.forecasts.specs.Forecasts.{trendAt, trendLine, seasonAt, forecastOf, forecastCodeTo, forecastTo}
 use Rattle.weights.specs.Weights.{dampingSum, trendTerm, seasonTerm, coefficient, squares, weightOf, weight, variance}

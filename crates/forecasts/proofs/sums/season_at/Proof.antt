@@ -7,7 +7,7 @@ use mir.Syntax.{w64}
 use borrow.Author.Tests.{not-true, not-false}
 use Rattle.integers.proofs.Difference.{back}
 use Rattle.integers.proofs.Bounds.{within-zero}
-use Rattle.state.specs.Models.{hasSeason}
+use Rattle.models.specs.Models.{hasSeason}
 use Rattle.state.specs.Valid.{Seasonal}
 use Rattle.forecasts.specs.Forecasts.{seasonAt}
 use borrow.Author.Needs.{needs}

@@ -7,8 +7,9 @@ use lib.IntN.{pos}
 use mir.Syntax.{w64}
 use mir.Facts.{toZ-ofZ}
 use borrow.Author.Needs.{needs}
-use Rattle.state.specs.States.{allBelow, cellOk}
-use Rattle.state.proofs.Tests.{allBelow-step}
+use Rattle.integers.specs.Below.{allBelow}
+use Rattle.state.specs.States.{cellOk}
+use Rattle.integers.proofs.Tests.{allBelow-step}
 use Rattle.state.proofs.checks.seasonal_ok.Statement.{statement}
 use Rattle.state.proofs.checks.seasonal_ok.Tie as tie
 

@@ -1,7 +1,7 @@
-use Rattle.state.proofs.Tests.{model-law}
+use Rattle.models.proofs.ModelLaws.{model-law}
 use borrow.Author.Needs.{needs}
-use Rattle.state.proofs.models.model_ok.Statement.{statement}
-use Rattle.state.proofs.models.model_ok.Tie as tie
+use Rattle.models.proofs.model_ok.Statement.{statement}
+use Rattle.models.proofs.model_ok.Tie as tie
 
 trend-of-requires : tie.Need-trend-of-requires
 trend-of-requires c κs = search needs

@@ -1,6 +1,6 @@
 use borrow.Author.Needs.{needs}
-use Rattle.state.proofs.checks.parameters_ok.Statement.{statement}
-use Rattle.state.proofs.checks.parameters_ok.Tie as tie
+use Rattle.models.proofs.parameters_ok.Statement.{statement}
+use Rattle.models.proofs.parameters_ok.Tie as tie
 
 has-trend-requires : tie.Need-has-trend-requires
 has-trend-requires c κs = search needs

@@ -1,6 +1,6 @@
 use borrow.Author.Needs.{needs}
-use Rattle.state.proofs.models.has_season.Statement.{statement}
-use Rattle.state.proofs.models.has_season.Tie as tie
+use Rattle.models.proofs.has_season.Statement.{statement}
+use Rattle.models.proofs.has_season.Tie as tie
 
 season-of-requires : tie.Need-season-of-requires
 season-of-requires c κs = search needs

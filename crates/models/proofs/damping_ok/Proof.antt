@@ -1,6 +1,6 @@
 use borrow.Author.Needs.{needs}
-use Rattle.state.proofs.checks.damping_ok.Statement.{statement}
-use Rattle.state.proofs.checks.damping_ok.Tie as tie
+use Rattle.models.proofs.damping_ok.Statement.{statement}
+use Rattle.models.proofs.damping_ok.Tie as tie
 
 pick-requires : tie.Need-pick-requires
 pick-requires c κs = search needs

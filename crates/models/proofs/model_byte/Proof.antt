@@ -5,8 +5,8 @@ use lib.Dec.{lit≤}
 use lib.Pow.{shl-exact}
 use Prim.Native.Nat.{_<_}
 use borrow.Author.Needs.{needs}
-use Rattle.state.proofs.models.model_byte.Statement.{statement}
-use Rattle.state.proofs.models.model_byte.Tie as tie
+use Rattle.models.proofs.model_byte.Statement.{statement}
+use Rattle.models.proofs.model_byte.Tie as tie
 
 trend-of-requires : tie.Need-trend-of-requires
 trend-of-requires c κs = search needs

@@ -1,6 +1,6 @@
 use borrow.Author.Needs.{needs}
-use Rattle.state.proofs.models.has_trend.Statement.{statement}
-use Rattle.state.proofs.models.has_trend.Tie as tie
+use Rattle.models.proofs.has_trend.Statement.{statement}
+use Rattle.models.proofs.has_trend.Tie as tie
 
 trend-of-requires : tie.Need-trend-of-requires
 trend-of-requires c κs = search needs

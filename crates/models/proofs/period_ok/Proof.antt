@@ -1,6 +1,6 @@
 use borrow.Author.Needs.{needs}
-use Rattle.state.proofs.checks.period_ok.Statement.{statement}
-use Rattle.state.proofs.checks.period_ok.Tie as tie
+use Rattle.models.proofs.period_ok.Statement.{statement}
+use Rattle.models.proofs.period_ok.Tie as tie
 
 has-season-requires : tie.Need-has-season-requires
 has-season-requires c κs = search needs
