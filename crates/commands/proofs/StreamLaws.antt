@@ -2,7 +2,7 @@
 -- gives the whole stream's answers, of which the last and no other is X or N.
 use Prim.Native.Nat.{ℕ, zero, suc, _+_, _-_, _≤_, _<_}
 use mathlib.Core.Path.{_≡_, refl, sym, ap, _∙_}
-use mathlib.Core.Bool.{Bool, true, false, cond, not, _&&_, _||_, true≢false, false≢true}
+use mathlib.Core.Bool.{Bool, true, false, cond, _||_, true≢false, false≢true}
 use mathlib.Core.List.{List, [], _∷_, _++_}
 use native.Mathlib.Nat.{zero-add}
 use native.Mathlib.Omega.{arith}
@@ -11,12 +11,12 @@ use lib.Dec.{eqb, leb, eqb·suc-zero}
 use lib.IntN.{ℤ}
 use lib.ListN.{length, length-drop, length-replicate, take, drop, getD, replicate}
 use lib.Seq.{sets, sets-eq, take-at, take-length}
-use Rattle.state.specs.Rejections.{unless, _then_, outcome, answer, input-too-long, out-of-place, truncated, unknown-command, short-buffer}
+use Rattle.state.specs.Rejections.{unless, outcome, answer, input-too-long, truncated, short-buffer}
 use Rattle.state.specs.States.{check}
 use Rattle.state.specs.declared.State.{State}
 use Rattle.state.specs.declared.Outcome.{Outcome}
 use Rattle.state.specs.declared.Outcome.the-variants as outcome-of
-use Rattle.integers.proofs.Tests.{cond-elim, both}
+use Rattle.integers.proofs.Tests.{cond-elim}
 use Rattle.state.proofs.Tests.{then-zero, unless-zero}
 use Rattle.ets.specs.Steps.{step, stepCode, residualOf, missing, missingCode}
 use Rattle.forecasts.specs.Forecasts.{forecastTo, forecastCode, forecastOf}
@@ -24,26 +24,28 @@ use Rattle.ets.proofs.Kept.{cells-kept, reading-kept, missing-kept}
 use Rattle.weights.specs.Weights.{variance}
 use Rattle.weights.specs.declared.Variance.{Variance}
 use Rattle.weights.specs.declared.Variance.the-variants as variance-of
-use Rattle.snapshot.specs.CommandTable.{commandSize, isCommand, onlyInSnapshot}
+use Rattle.snapshot.specs.CommandTable.{commandSize}
 use Rattle.snapshot.specs.Layout.{sizeOf}
 use Rattle.snapshot.specs.Snapshots.{openCode, openOffset, decoded, read, encoded, save, saveCode, savedBytes}
 use Rattle.snapshot.proofs.Accepting.{accepted-size}
 use Rattle.snapshot.proofs.OffsetLaws.{offsets}
 use Rattle.snapshot.proofs.RoundTrip.{accepted-passes, length-decoded, length-encoded}
+use Rattle.decoding.specs.Decoding.{commandCode, operands, decode}
+use Rattle.decoding.specs.declared.Decoded.{Decoded}
+use Rattle.decoding.specs.declared.Command.{Command}
+use Rattle.decoding.specs.declared.Command.the-variants as command-of
+use Rattle.decoding.proofs.DecodingLaws.{inside, whole-command}
 use Rattle.lines.specs.Lines.{fieldsBytes, lineOf, writeLine, lineBytes}
 use Rattle.lines.specs.declared.Reply.{Reply}
 use Rattle.lines.specs.declared.Reply.the-variants as reply-of
 use Rattle.lines.specs.declared.Line.the-variants as line-of
 use Rattle.lines.proofs.LineLaws.{savedCount, line-most, long-enough}
-use Rattle.commands.specs.Commands.{start, accepted, rejected, byOutcome, byAnswer, byVariance, commandCode, operands, decode, finish, restOffset, openSnapshot, takeReading, takeMissing, giveForecast, giveVariance, saveState, act, buffered, perform, performBytes, isLast}
+use Rattle.commands.specs.Commands.{start, accepted, rejected, byOutcome, byAnswer, byVariance, finish, restOffset, openSnapshot, takeReading, takeMissing, giveForecast, giveVariance, saveState, act, buffered, perform, performBytes, isLast}
 use Rattle.commands.specs.Stream.{inputLimit, snapshotRoom, lineRoom, admit, next, answersIn, answersFrom, answersOf, answers, writeNext, nextBytes, finalReply, lastReply, lineAfter, textOf}
 use Rattle.commands.specs.Promises.{Passes, Sound, Sessions, EndsOnce, Answers, Openings, Offsets}
 use Rattle.commands.specs.declared.Session.{Session}
 use Rattle.commands.specs.declared.Performed.{Performed}
-use Rattle.commands.specs.declared.decoding.Decoded.{Decoded}
-use Rattle.commands.specs.declared.decoding.Command.{Command}
-use Rattle.commands.specs.declared.decoding.Command.the-variants as command-of
-use Rattle.commands.proofs.CommandLaws.{snapshot-most, performs, opened-rejected, inside}
+use Rattle.commands.proofs.CommandLaws.{snapshot-most, performs, opened-rejected}
 
 module _ (P : Performed → Type 0) where
   on-outcome : (code : ℕ) (a : Performed) (r : ℕ → Performed) → (code ≡ 0 → P a) → ((n : ℕ) → P (r n)) → P (byOutcome (outcome code) a r)
@@ -148,15 +150,11 @@ save-goes s x d to h k same =
     (λ z. goes s x (savedBytes (x .state) d) _ to _ h k same (snapshot-most (x .state) (save-check (x .state) (length d) z)) (saved-line (x .state) d z))
     (λ n. stays s x (savedBytes (x .state) d) n _)
 
--- ---- a command that was decoded has its bytes, and an open state unless it opens one
+-- ---- a command that was decoded finds an open state unless it opens one
 active-is : (a b : Bool) → (a || b) ≡ true → b ≡ false → a ≡ true
 active-is true b e f = refl
 active-is false true e f = absurd (true≢false f)
 active-is false false e f = absurd (false≢true e)
-
-size-least : (n : ℕ) → not (eqb n 0) ≡ true → 0 < n
-size-least zero e = absurd (false≢true e)
-size-least (suc n) e = omega arith
 
 module _ (s : List ℕ) (x : Session) (d : List ℕ) where
   abbrev b : ℕ
@@ -166,17 +164,13 @@ module _ (s : List ℕ) (x : Session) (d : List ℕ) where
   After k = Goes s x (buffered x d (k .command)) (act s x (length d) (k .next) (k .command))
 
   operands-go : x .at < length s → commandCode s (x .at) (x .active) ≡ 0 → After (record { command = operands s (x .at); next = x .at + commandSize b })
-  unfolding operands commandCode isCommand
+  unfolding operands
   operands-go h e =
-      let c2 = then-zero (unless (isCommand b) unknown-command) (unless (not (onlyInSnapshot b) && (x .active || eqb b 0x10)) out-of-place then unless (leb (commandSize b) (length s - x .at)) truncated) e in
-      let c3 = then-zero (unless (not (onlyInSnapshot b) && (x .active || eqb b 0x10)) out-of-place) (unless (leb (commandSize b) (length s - x .at)) truncated) (c2 .1) in
-      let due = both (not (onlyInSnapshot b)) (x .active || eqb b 0x10) (unless-zero _ 2 (c3 .0)) .1 in
-      let n = leb-true (commandSize b) (length s - x .at) (unless-zero _ 3 (c3 .1)) in
-      let m = size-least (commandSize b) (unless-zero (isCommand b) 1 (c2 .0)) in
+      let w = whole-command s (x .at) (x .active) e in
       let to : ℕ = x .at + commandSize b in
       let l : x .at < to = omega arith in
       let k : to ≤ length s = omega arith in
-      let open-state : eqb b 0x10 ≡ false → Sound x → Passes (x .state) = λ q p. p .passes (active-is (x .active) (eqb b 0x10) due q) in
+      let open-state : eqb b 0x10 ≡ false → Sound x → Passes (x .state) = λ q p. p .passes (active-is (x .active) (eqb b 0x10) (w .due) q) in
       let P : Command → Type 0 = λ c. After (record { command = c; next = to }) in
       cond-elim P (eqb b 0x10) _ _ (λ _. open-goes s x d h)
       (λ q. cond-elim P (eqb b 0x20) _ _ (λ _. reading-goes s x d to l k (open-state q) _)

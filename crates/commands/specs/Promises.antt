@@ -8,14 +8,15 @@ use Rattle.state.specs.Rejections.{input-too-long, truncated}
 use Rattle.state.specs.States.{check}
 use Rattle.state.specs.declared.State.{State}
 use Rattle.snapshot.specs.Snapshots.{openCode, openOffset, decoded, encoded}
+use Rattle.decoding.specs.Decoding.{decode}
+use Rattle.decoding.specs.declared.Command.the-variants as command-of
 use Rattle.lines.specs.Lines.{writeLine}
 use Rattle.lines.specs.declared.Reply.the-variants as reply-of
 use Rattle.lines.specs.declared.Line.the-variants as line-of
-use Rattle.commands.specs.Commands.{start, rejected, decode, perform, isLast}
+use Rattle.commands.specs.Commands.{start, rejected, perform, isLast}
 use Rattle.commands.specs.Stream.{inputLimit, lineRoom, next, answersFrom, answers, lineAfter, textOf, text}
 use Rattle.commands.specs.declared.Session.{Session}
 use Rattle.commands.specs.declared.Performed.{Performed}
-use Rattle.commands.specs.declared.decoding.Command.the-variants as command-of
 
 -- a state that is open passes its checks
 pub record Passes (t : State) : Type 0 where

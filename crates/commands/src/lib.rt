@@ -1,6 +1,4 @@
 // A stream of commands, one at a time: document 01, "Commands" and "The program's lines".
-mod decoding;
-mod operands;
 mod performing;
 pub mod promises;
 

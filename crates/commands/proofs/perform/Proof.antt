@@ -1,7 +1,8 @@
 -- `commands::perform` meets its contract.
 use borrow.Author.Needs.{needs}
-use Rattle.commands.specs.declared.decoding.Decoded.{Decoded}
-use Rattle.commands.proofs.CommandLaws.{performs, leaves, inside}
+use Rattle.decoding.specs.declared.Decoded.{Decoded}
+use Rattle.decoding.proofs.DecodingLaws.{inside}
+use Rattle.commands.proofs.CommandLaws.{performs, leaves}
 use mir.ValLaws.{toZ-ofZ}
 use mir.Syntax.{w32}
 use mathlib.Core.Path.{sym, ap, _∙_}

@@ -9,8 +9,9 @@ use Rattle.weights.specs.Weights.{dampingSum, trendTerm, seasonTerm, coefficien
 use Rattle.snapshot.specs.Bytes.{fromBytes}
 use Rattle.snapshot.specs.CommandTable.{commandSize, isCommand, onlyInSnapshot}
 use Rattle.snapshot.specs.Snapshots.{dueCode, modelCode, levelCode, positionCode, scanSeasons, scan, cellsAt, decoded, read}
+use Rattle.decoding.specs.Decoding.{commandCode, operands, decode}
 use Rattle.lines.specs.Lines.{digits, digitCount, decimal, signedDecimal, fieldsBytes, lineOf}
-use Rattle.commands.specs.Commands.{commandCode, operands, decode, start, finish, openSnapshot, takeReading, giveForecast, giveVariance, perform}
+use Rattle.commands.specs.Commands.{start, finish, openSnapshot, takeReading, giveForecast, giveVariance, perform}
 use Rattle.commands.specs.Stream.{admit, answersIn, answersFrom, answers, lineAfter, textOf, text}
 use Rattle.commands.proofs.promises.listing.Statement.{statement}
 use Rattle.commands.proofs.promises.listing.Tie as tie

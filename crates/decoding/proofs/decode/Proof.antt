@@ -1,11 +1,11 @@
--- `commands::decoding::decode` meets its contract.
+-- `decoding::decode` meets its contract.
 use borrow.Author.Needs.{needs}
-use Rattle.commands.proofs.CommandLaws.{table-bytes, table-rejected, decode-end, decode-unknown, decode-stray, decode-short, decode-whole}
+use Rattle.decoding.proofs.DecodingLaws.{table-bytes, table-rejected, decode-end, decode-unknown, decode-stray, decode-short, decode-whole}
 use borrow.Author.Tests.{not-true, not-false}
 use native.Mathlib.Omega.{arith}
 use mathlib.Core.Path.{sym, _∙_}
-use Rattle.commands.proofs.decoding.decode.Statement.{statement}
-use Rattle.commands.proofs.decoding.decode.Tie as tie
+use Rattle.decoding.proofs.decode.Statement.{statement}
+use Rattle.decoding.proofs.decode.Tie as tie
 
 returns : tie.Need-returns
 returns c =

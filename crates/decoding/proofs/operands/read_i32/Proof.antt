@@ -1,12 +1,12 @@
--- `commands::operands::read_i32` meets its contract.
+-- `decoding::operands::read_i32` meets its contract.
 use borrow.Author.Needs.{needs}
 use mathlib.Core.Path.{ap, _∙_}
 use mir.Syntax.{w32}
 use mir.Val.{toZ}
 use mir.ValLaws.{toZ-ofZ}
 use Rattle.snapshot.proofs.Signed.{down, down-fits}
-use Rattle.commands.proofs.operands.read_i32.Statement.{statement}
-use Rattle.commands.proofs.operands.read_i32.Tie as tie
+use Rattle.decoding.proofs.operands.read_i32.Statement.{statement}
+use Rattle.decoding.proofs.operands.read_i32.Tie as tie
 
 read-u32-requires : tie.Need-read-u32-requires
 read-u32-requires c κs = search needs

@@ -1,17 +1,14 @@
-// The command at an offset of a stream.
-use super::operands::read_i32;
-use super::operands::read_u16;
-use super::operands::read_u32;
+// The command at an offset of a stream: document 01, "Commands" and "Refusals, in checking order".
+mod operands;
+
+use operands::operands;
 use snapshot::Length;
 use snapshot::command_length;
 use snapshot::only_in_snapshot;
 use state::OUT_OF_PLACE;
 use state::TRUNCATED;
 ghost use mathlib.Core.Path.{_≡_};
-ghost use Prim.Native.Nat.{_+_, _≤_, _<_};
-ghost use lib.ListN.{length, getD};
-ghost use Rattle.snapshot.specs.CommandTable.{commandSize};
-ghost use Rattle.commands.specs.Commands.{operands, decode};
+ghost use Rattle.decoding.specs.Decoding.{decode};
 
 pub enum Command {
     // No command: the stream ends.
@@ -30,33 +27,6 @@ pub enum Command {
 pub struct Decoded {
     pub command: Command,
     pub next: usize,
-}
-
-// The command of a first byte, all of whose operands are there.
-fn operands(s: &[u8], at: usize) -> Command
-    requires { ⌜ (at < length (now s)) × (at + commandSize (getD (now s) at 0) ≤ length (now s)) ⌝ }
-    ensures { λ r. ⌜ r ≡ operands (now (s .entry)) at ⌝ }
-{
-    let b = s[at];
-    if b == 0x10 {
-        return Command::Open;
-    }
-    if b == 0x20 {
-        return Command::Reading(read_i32(s, at + 1));
-    }
-    if b == 0x21 {
-        return Command::Missing;
-    }
-    if b == 0x30 {
-        return Command::Forecast(read_u16(s, at + 1));
-    }
-    if b == 0x31 {
-        return Command::Variance {
-            horizon: read_u16(s, at + 1),
-            sigma2: read_u32(s, at + 3),
-        };
-    }
-    Command::Save
 }
 
 // The command at an offset, where a state is open or not.

@@ -1,15 +1,15 @@
--- `commands::decoding::operands` meets its contract.
+-- `decoding::operands::operands` meets its contract.
 use borrow.Author.Needs.{needs}
-use Rattle.commands.specs.declared.decoding.Command.the-variants as command-of
-use Rattle.commands.specs.Commands.{operands}
+use Rattle.decoding.specs.declared.Command.the-variants as command-of
+use Rattle.decoding.specs.Decoding.{operands}
 use Rattle.snapshot.specs.CommandTable.{commandSize}
 use mir.ValLaws.{toZ-ofZ}
 use mir.Syntax.{w32}
 use borrow.Author.Tests.{ne-eqb}
 use native.Mathlib.Omega.{arith}
 use mathlib.Core.Path.{ap, _∙_}
-use Rattle.commands.proofs.decoding.operands.Statement.{statement}
-use Rattle.commands.proofs.decoding.operands.Tie as tie
+use Rattle.decoding.proofs.operands.operands.Statement.{statement}
+use Rattle.decoding.proofs.operands.operands.Tie as tie
 
 shared-slice-read-b : tie.Need-shared-slice-read-b
 shared-slice-read-b c = search needs

@@ -1,10 +1,13 @@
 // Operands of 16 and 32 bits, low byte first, where the stream has so many bytes.
+use super::Command;
 ghost use mathlib.Core.Path.{_≡_};
 ghost use Prim.Native.Nat.{_+_, _≤_, _<_};
-ghost use lib.ListN.{length};
+ghost use lib.ListN.{length, getD};
 ghost use mir.Syntax.{w32};
 ghost use mir.Val.{toZ};
 ghost use Rattle.snapshot.specs.Bytes.{unsignedAt};
+ghost use Rattle.snapshot.specs.CommandTable.{commandSize};
+ghost use Rattle.decoding.specs.Decoding.{operands};
 
 pub fn read_u16(s: &[u8], at: usize) -> u32
     requires { ⌜ at + 2 ≤ length (now s) ⌝ }
@@ -33,4 +36,31 @@ pub fn read_i32(s: &[u8], at: usize) -> i32
     } else {
         -1 - ((u32::MAX - n) as i32)
     }
+}
+
+// The command of a first byte, all of whose operands are there.
+pub fn operands(s: &[u8], at: usize) -> Command
+    requires { ⌜ (at < length (now s)) × (at + commandSize (getD (now s) at 0) ≤ length (now s)) ⌝ }
+    ensures { λ r. ⌜ r ≡ operands (now (s .entry)) at ⌝ }
+{
+    let b = s[at];
+    if b == 0x10 {
+        return Command::Open;
+    }
+    if b == 0x20 {
+        return Command::Reading(read_i32(s, at + 1));
+    }
+    if b == 0x21 {
+        return Command::Missing;
+    }
+    if b == 0x30 {
+        return Command::Forecast(read_u16(s, at + 1));
+    }
+    if b == 0x31 {
+        return Command::Variance {
+            horizon: read_u16(s, at + 1),
+            sigma2: read_u32(s, at + 3),
+        };
+    }
+    Command::Save
 }

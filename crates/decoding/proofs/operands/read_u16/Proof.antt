@@ -1,11 +1,11 @@
--- `commands::operands::read_u16` meets its contract.
+-- `decoding::operands::read_u16` meets its contract.
 use borrow.Author.Needs.{needs}
 use Prim.Native.Nat.{_+_}
 use mathlib.Core.Path.{sym}
 use native.Mathlib.Omega.{arith}
-use Rattle.commands.proofs.CommandLaws.{two-bytes}
-use Rattle.commands.proofs.operands.read_u16.Statement.{statement}
-use Rattle.commands.proofs.operands.read_u16.Tie as tie
+use Rattle.decoding.proofs.DecodingLaws.{two-bytes}
+use Rattle.decoding.proofs.operands.read_u16.Statement.{statement}
+use Rattle.decoding.proofs.operands.read_u16.Tie as tie
 
 shared-slice-read-low : tie.Need-shared-slice-read-low
 shared-slice-read-low c = search needs

@@ -1,9 +1,9 @@
--- `commands::operands::read_u32` meets its contract.
+-- `decoding::operands::read_u32` meets its contract.
 use borrow.Author.Needs.{needs}
 use native.Mathlib.Omega.{arith}
-use Rattle.commands.proofs.CommandLaws.{four-bytes}
-use Rattle.commands.proofs.operands.read_u32.Statement.{statement}
-use Rattle.commands.proofs.operands.read_u32.Tie as tie
+use Rattle.decoding.proofs.DecodingLaws.{four-bytes}
+use Rattle.decoding.proofs.operands.read_u32.Statement.{statement}
+use Rattle.decoding.proofs.operands.read_u32.Tie as tie
 
 read-u16-requires : tie.Need-read-u16-requires
 read-u16-requires c κs = search needs

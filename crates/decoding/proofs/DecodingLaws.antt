@@ -1,0 +1,124 @@
+-- Laws of the command at an offset: its operands, and the order of its refusals.
+use Prim.Native.Nat.{ℕ, zero, suc, _+_, _-_, _*_, _≤_, _<_}
+use mathlib.Core.Path.{_≡_, refl}
+use mathlib.Core.Bool.{Bool, true, false, cond, not, _&&_, _||_, false≢true}
+use mathlib.Core.List.{List}
+use native.Mathlib.Omega.{arith}
+use borrow.Author.Tests.{le-leb, lt-leb, leb-true, leb-false}
+use lib.Dec.{eqb, leb}
+use lib.ListN.{length, getD}
+use lib.Seq.{drop-cons}
+use Rattle.state.specs.Rejections.{unless, _then_, unknown-command, out-of-place, truncated}
+use Rattle.integers.proofs.Tests.{both}
+use Rattle.state.proofs.Tests.{unless-then, unless-zero}
+use Rattle.snapshot.specs.Answers.{lengthAnswer}
+use Rattle.snapshot.specs.Bytes.{fromBytes, unsignedAt}
+use Rattle.snapshot.specs.CommandTable.{commandSize, isCommand, onlyInSnapshot, commandLength}
+use Rattle.snapshot.specs.declared.Length.the-variants as length-of
+use Rattle.decoding.specs.Decoding.{commandCode, operands, decoded, decode}
+use Rattle.decoding.specs.declared.Command.the-variants as command-of
+
+-- ---- operands of two and of four bytes
+pub two-bytes : (s : List ℕ) (at : ℕ) → at + 2 ≤ length s → unsignedAt s at 2 ≡ getD s at 0 + 256 * getD s (at + 1) 0
+unfolding fromBytes
+two-bytes s at h =
+    let e : at + 1 ≡ suc at = omega arith in
+    let a : at < length s = omega arith in
+    let b : suc at < length s = omega arith in
+    rw (e, drop-cons s at 0, drop-cons s (suc at) 0) (omega arith)
+
+pub four-bytes : (s : List ℕ) (at : ℕ) → at + 4 ≤ length s → unsignedAt s at 4 ≡ unsignedAt s at 2 + 65536 * unsignedAt s (at + 2) 2
+unfolding fromBytes
+four-bytes s at h =
+    let e : at + 2 ≡ suc (suc at) = omega arith in
+    let a : at < length s = omega arith in
+    let b : suc at < length s = omega arith in
+    let c : suc (suc at) < length s = omega arith in
+    let d : suc (suc (suc at)) < length s = omega arith in
+    rw (e, drop-cons s at 0, drop-cons s (suc at) 0, drop-cons s (suc (suc at)) 0, drop-cons s (suc (suc (suc at))) 0) (omega arith)
+
+-- ---- the length of a command, as the table told it
+module _ (b n : ℕ) where
+  pub table-bytes : commandLength b ≡ length-of.Bytes n → (isCommand b ≡ true) × (n ≡ commandSize b)
+  unfolding commandLength
+  table-bytes e = go (isCommand b) e
+    where
+      go : (t : Bool) → lengthAnswer (unless t unknown-command) (commandSize b) ≡ length-of.Bytes n → (t ≡ true) × (n ≡ commandSize b)
+      go true e = (refl, cc)
+      go false e =
+          let z : _≡_ {A = ℕ} 0 1 = cc in
+          absurd (omega arith)
+
+  pub table-rejected : commandLength b ≡ length-of.Rejected n → (isCommand b ≡ false) × (n ≡ unknown-command)
+  unfolding commandLength
+  table-rejected e = go (isCommand b) e
+    where
+      go : (t : Bool) → lengthAnswer (unless t unknown-command) (commandSize b) ≡ length-of.Rejected n → (t ≡ false) × (n ≡ unknown-command)
+      go true e =
+          let z : _≡_ {A = ℕ} 0 1 = cc in
+          absurd (omega arith)
+      go false e = (refl, cc)
+
+-- ---- a command is decoded: the end, then 2, 3, 4, then its operands
+module _ (s : List ℕ) (at : ℕ) (active : Bool) where
+  abbrev b : ℕ
+  b = getD s at 0
+
+  abbrev Due : Bool → Type 0
+  Due t = (not (onlyInSnapshot b) && (active || eqb b 0x10)) ≡ t
+
+  pub decode-end : length s ≤ at → decode s at active ≡ decoded command-of.End at
+  unfolding decode
+  decode-end h = rw (le-leb (length s) at h)
+
+  pub inside : decode s at active .command ≡ command-of.Open → at ≤ length s
+  unfolding decode
+  inside e = go (leb (length s) at) refl e
+    where
+      go : (t : Bool) → leb (length s) at ≡ t
+          → cond t (decoded command-of.End at) (cond (eqb (commandCode s at active) 0) (decoded (operands s at) (at + commandSize b)) (decoded (command-of.Rejected (commandCode s at active)) at)) .command ≡ command-of.Open
+          → at ≤ length s
+      go true q e =
+          let z : _≡_ {A = ℕ} 0 1 = cc in
+          absurd (omega arith)
+      go false q e = omega (arith, leb-false (length s) at q)
+
+  module _ (h : at < length s) where
+    pub decode-unknown : isCommand b ≡ false → decode s at active ≡ decoded (command-of.Rejected 2) at
+    unfolding decode commandCode
+    decode-unknown u = rw (lt-leb (length s) at h, u)
+
+    pub decode-stray : isCommand b ≡ true → Due false → decode s at active ≡ decoded (command-of.Rejected 3) at
+    unfolding decode commandCode
+    decode-stray u v = rw (lt-leb (length s) at h, u, v)
+
+    pub decode-short : isCommand b ≡ true → Due true → length s - at < commandSize b → decode s at active ≡ decoded (command-of.Rejected 4) at
+    unfolding decode commandCode
+    decode-short u v w = rw (lt-leb (length s) at h, u, v, lt-leb (commandSize b) (length s - at) w)
+
+    pub decode-whole : isCommand b ≡ true → Due true → commandSize b ≤ length s - at → decode s at active ≡ decoded (operands s at) (at + commandSize b)
+    unfolding decode commandCode
+    decode-whole u v w = rw (lt-leb (length s) at h, u, v, le-leb (commandSize b) (length s - at) w)
+
+-- ---- a command that nothing rejects has its bytes, and an open state unless it opens one
+size-least : (n : ℕ) → not (eqb n 0) ≡ true → 0 < n
+size-least zero e = absurd (false≢true e)
+size-least (suc n) e = omega arith
+
+pub record Whole (s : List ℕ) (at : ℕ) (active : Bool) : Type 0 where
+  pub due : (active || eqb (getD s at 0) 0x10) ≡ true
+  pub least : 0 < commandSize (getD s at 0)
+  pub most : commandSize (getD s at 0) ≤ length s - at
+
+pub whole-command : (s : List ℕ) (at : ℕ) (active : Bool) → commandCode s at active ≡ 0 → Whole s at active
+unfolding commandCode isCommand
+whole-command s at active e =
+    let b = getD s at 0 in
+    let due = not (onlyInSnapshot b) && (active || eqb b 0x10) in
+    let c = unless-then (isCommand b) 1 (unless due out-of-place then unless (leb (commandSize b) (length s - at)) truncated) e in
+    let d = unless-then due 2 (unless (leb (commandSize b) (length s - at)) truncated) (c .1) in
+    record {
+      due = both (not (onlyInSnapshot b)) (active || eqb b 0x10) (d .0) .1;
+      least = size-least (commandSize b) (c .0);
+      most = leb-true (commandSize b) (length s - at) (unless-zero _ 3 (d .1));
+    }
