@@ -8,12 +8,6 @@ use borrow.Author.Needs.{needs}
 use Rattle.models.proofs.model_byte.Statement.{statement}
 use Rattle.models.proofs.model_byte.Tie as tie
 
-trend-of-requires : tie.Need-trend-of-requires
-trend-of-requires c κs = search needs
-
-season-of-requires : tie.Need-season-of-requires
-season-of-requires c κs = search needs
-
 returns : tie.Need-returns
 returns c =
     let season : c .season-of .result < 2 = omega (arith, c .season-of .ensures) in
@@ -22,4 +16,4 @@ returns c =
     ∙ rw (c .season-of .ensures, c .before .trend-of .ensures)
 
 pub model-byte-spec : {M : Type 1} → statement M
-model-byte-spec = tie.close (tie.spec trend-of-requires season-of-requires returns)
+model-byte-spec = tie.close (tie.spec (λ c κs. search needs) (λ c κs. search needs) returns)

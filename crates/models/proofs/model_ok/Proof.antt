@@ -3,11 +3,8 @@ use borrow.Author.Needs.{needs}
 use Rattle.models.proofs.model_ok.Statement.{statement}
 use Rattle.models.proofs.model_ok.Tie as tie
 
-trend-of-requires : tie.Need-trend-of-requires
-trend-of-requires c κs = search needs
-
 returns : tie.Need-returns
 returns c = rw (c .trend-of .ensures) (model-law (c .before .args .model) (search needs))
 
 pub model-ok-spec : {M : Type 1} → statement M
-model-ok-spec = tie.close (tie.spec trend-of-requires returns)
+model-ok-spec = tie.close (tie.spec (λ c κs. search needs) returns)

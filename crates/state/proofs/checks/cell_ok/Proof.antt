@@ -3,17 +3,8 @@ use borrow.Author.Needs.{needs}
 use Rattle.state.proofs.checks.cell_ok.Statement.{statement}
 use Rattle.state.proofs.checks.cell_ok.Tie as tie
 
-in-range-requires : tie.Need-in-range-requires
-in-range-requires c κs = search needs
-
-is-zero-requires : tie.Need-is-zero-requires
-is-zero-requires c κs = search needs
-
-pick-requires : tie.Need-pick-requires
-pick-requires c κs = search needs
-
 returns : tie.Need-returns
 returns c = rw (c .pick .ensures, c .before .is-zero .ensures, c .before .before .in-range .ensures, toZ-ofZ (c .before .before .before .fits .v))
 
 pub cell-ok-spec : {M : Type 1} → statement M
-cell-ok-spec = tie.close (tie.spec in-range-requires is-zero-requires pick-requires returns)
+cell-ok-spec = tie.close (tie.spec (λ c κs. search needs) (λ c κs. search needs) (λ c κs. search needs) returns)

@@ -23,21 +23,6 @@ loop-holds : tie.Need-loop-holds Inv-loop μ-loop
 unfolding allBelow
 loop-holds c = search needs
 
-mul-cell-ok : tie.Need-mul-cell-ok Inv-loop μ-loop
-mul-cell-ok c = search needs
-
-element-copy-out-cell-ok : tie.Need-element-copy-out-cell-ok Inv-loop μ-loop
-element-copy-out-cell-ok c = search needs
-
-cell-ok-requires : tie.Need-cell-ok-requires Inv-loop μ-loop
-cell-ok-requires c κs = search needs
-
-add-k : tie.Need-add-k Inv-loop μ-loop
-add-k c = search needs
-
-loop-less : tie.Need-loop-less Inv-loop μ-loop
-loop-less c = search needs
-
 loop-again : tie.Need-loop-again Inv-loop μ-loop
 loop-again c =
     let h = c .before .before .before in (
@@ -57,10 +42,10 @@ seasonal-ok-spec =
     Inv-loop
     μ-loop
     loop-holds
-    mul-cell-ok
-    element-copy-out-cell-ok
-    cell-ok-requires
-    add-k
-    loop-less
+    (λ c. search needs)
+    (λ c. search needs)
+    (λ c κs. search needs)
+    (λ c. search needs)
+    (λ c. search needs)
     loop-again
     returns)

@@ -4,18 +4,6 @@ use borrow.Author.Needs.{needs}
 use Rattle.state.proofs.checks.values_ok.Statement.{statement}
 use Rattle.state.proofs.checks.values_ok.Tie as tie
 
-in-range-requires : tie.Need-in-range-requires
-in-range-requires c κs = search needs
-
-trend-ok-requires : tie.Need-trend-ok-requires
-trend-ok-requires c κs = search needs
-
-cast-seasonal-ok : tie.Need-cast-seasonal-ok
-cast-seasonal-ok c = search needs
-
-seasonal-ok-requires : tie.Need-seasonal-ok-requires
-seasonal-ok-requires c κs = search needs
-
 returns : tie.Need-returns
 returns c =
     let t = c .before .before .before in
@@ -26,4 +14,4 @@ returns c =
 pub values-ok-spec : {M : Type 1} → statement M
 values-ok-spec =
     tie.close
-    (tie.spec in-range-requires trend-ok-requires cast-seasonal-ok seasonal-ok-requires returns)
+    (tie.spec (λ c κs. search needs) (λ c κs. search needs) (λ c. search needs) (λ c κs. search needs) returns)
