@@ -20,7 +20,7 @@ use Rattle.snapshot.specs.declared.Opened.{Opened}
 use Rattle.snapshot.proofs.AnswerLaws.{lengths}
 use Rattle.snapshot.proofs.OffsetLaws.{offsets}
 use Rattle.snapshot.proofs.RoundTrip.{length-encoded}
-use Rattle.lines.specs.declared.Reply.the-variants as reply-of
+use Rattle.replies.specs.declared.Reply.the-variants as reply-of
 use Rattle.decoding.specs.Decoding.{decode}
 use Rattle.decoding.specs.declared.Command.{Command}
 use Rattle.decoding.specs.declared.Decoded.{Decoded}

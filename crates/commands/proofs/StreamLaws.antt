@@ -36,8 +36,8 @@ use Rattle.decoding.specs.declared.Command.{Command}
 use Rattle.decoding.specs.declared.Command.the-variants as command-of
 use Rattle.decoding.proofs.DecodingLaws.{inside, whole-command}
 use Rattle.lines.specs.Lines.{fieldsBytes, lineOf, writeLine, lineBytes}
-use Rattle.lines.specs.declared.Reply.{Reply}
-use Rattle.lines.specs.declared.Reply.the-variants as reply-of
+use Rattle.replies.specs.declared.Reply.{Reply}
+use Rattle.replies.specs.declared.Reply.the-variants as reply-of
 use Rattle.lines.specs.declared.Line.the-variants as line-of
 use Rattle.lines.proofs.LineLaws.{savedCount, line-most, long-enough}
 use Rattle.commands.specs.Commands.{start, accepted, rejected, byOutcome, byAnswer, byVariance, finish, restOffset, openSnapshot, takeReading, takeMissing, giveForecast, giveVariance, saveState, act, buffered, perform, performBytes, isLast}

@@ -20,8 +20,8 @@ use Rattle.snapshot.specs.Snapshots.{openCode, openOffset, read, encoded, save,
 use Rattle.decoding.specs.Decoding.{decode}
 use Rattle.decoding.specs.declared.Command.{Command}
 use Rattle.decoding.specs.declared.Command.the-variants as command-of
-use Rattle.lines.specs.declared.Reply.{Reply}
-use Rattle.lines.specs.declared.Reply.the-variants as reply-of
+use Rattle.replies.specs.declared.Reply.{Reply}
+use Rattle.replies.specs.declared.Reply.the-variants as reply-of
 use Rattle.commands.specs.declared.Session.{Session}
 use Rattle.commands.specs.declared.Performed.{Performed}
 

@@ -11,7 +11,7 @@ use Rattle.snapshot.specs.Snapshots.{openCode, openOffset, decoded, encoded}
 use Rattle.decoding.specs.Decoding.{decode}
 use Rattle.decoding.specs.declared.Command.the-variants as command-of
 use Rattle.lines.specs.Lines.{writeLine}
-use Rattle.lines.specs.declared.Reply.the-variants as reply-of
+use Rattle.replies.specs.declared.Reply.the-variants as reply-of
 use Rattle.lines.specs.declared.Line.the-variants as line-of
 use Rattle.commands.specs.Commands.{start, rejected, perform, isLast}
 use Rattle.commands.specs.Stream.{inputLimit, lineRoom, next, answersFrom, answers, lineAfter, textOf, text}

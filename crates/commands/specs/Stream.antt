@@ -9,8 +9,8 @@ use Rattle.state.specs.declared.Outcome.{Outcome}
 use Rattle.state.specs.declared.Outcome.the-variants as outcome-of
 use Rattle.snapshot.specs.Snapshots.{encoded}
 use Rattle.lines.specs.Lines.{lineOf, writeLine, lineBytes}
-use Rattle.lines.specs.declared.Reply.{Reply}
-use Rattle.lines.specs.declared.Reply.the-variants as reply-of
+use Rattle.replies.specs.declared.Reply.{Reply}
+use Rattle.replies.specs.declared.Reply.the-variants as reply-of
 use Rattle.commands.specs.Commands.{start, rejected, perform, isLast}
 use Rattle.commands.specs.declared.Session.{Session}
 use Rattle.commands.specs.declared.Performed.{Performed}

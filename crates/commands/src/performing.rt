@@ -4,7 +4,7 @@ use super::Session;
 use ets::steps::missing;
 use ets::steps::step;
 use forecasts::forecast;
-use lines::Reply;
+use replies::Reply;
 use snapshot::Length;
 use snapshot::bytes_needed;
 use snapshot::read;

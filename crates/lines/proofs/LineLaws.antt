@@ -10,11 +10,12 @@ use lib.IntN.{ℤ, pos, negsuc}
 use lib.ListN.{length, length-append, take}
 use lib.Seq.{sets}
 use Rattle.state.specs.Rejections.{unless}
-use Rattle.lines.specs.Lines.{decimal, signedDecimal, numberBytes, fieldsBytes, fieldsOf, lineOf, line, writeLine, lineBytes}
-use Rattle.lines.specs.declared.Reply.{Reply}
-use Rattle.lines.specs.declared.Reply.the-variants.{Opened, Residual, Missing, Forecast, Variance, Saved, Rejected, Ended}
+use Rattle.replies.specs.Replies.{fieldsOf}
+use Rattle.lines.specs.Lines.{decimal, signedDecimal, numberBytes, fieldsBytes, lineOf, line, writeLine, lineBytes}
+use Rattle.replies.specs.declared.Reply.{Reply}
+use Rattle.replies.specs.declared.Reply.the-variants.{Opened, Residual, Missing, Forecast, Variance, Saved, Rejected, Ended}
 use Rattle.lines.specs.declared.Line.the-variants as line-of
-use Rattle.lines.specs.declared.fields.Fields.{Fields}
+use Rattle.replies.specs.declared.Fields.{Fields}
 use Rattle.lines.proofs.DigitLaws.{length-decimal, count-most, length-hexadecimal}
 
 pub length-fields : (saved : List ℕ) (f : Fields)

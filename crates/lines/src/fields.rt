@@ -1,76 +1,17 @@
-// A line as a letter and up to three numbers, and its bytes at the start of a lent buffer.
-use super::Reply;
+// A line's bytes, a letter and up to three numbers, at the start of a lent buffer.
 use super::digits::digit_count;
 use super::digits::magnitude;
 use super::digits::put_byte;
 use super::digits::put_decimal;
 use super::digits::put_hexadecimal;
 use super::digits::put_signed;
+use replies::Fields;
+use replies::Number;
 ghost use mathlib.Core.Path.{_≡_};
 ghost use Prim.Native.Nat.{_+_, _≤_};
 ghost use lib.ListN.{length, take};
 ghost use lib.Seq.{sets};
-ghost use Rattle.lines.specs.Lines.{numberBytes, fieldsBytes, fieldsOf, Put};
-
-// A number of a line, with the blank before it.
-pub enum Number {
-    Nothing,
-    Unsigned(u64),
-    Signed(i64),
-    // So many of the bytes saved.
-    Hexadecimal(u32),
-}
-
-pub struct Fields {
-    pub letter: u8,
-    pub first: Number,
-    pub second: Number,
-    pub third: Number,
-}
-
-fn three(letter: u8, first: Number, second: Number, third: Number) -> Fields
-    ensures { λ f. ⌜ f ≡ record { letter = letter; first = first; second = second; third = third } ⌝ }
-{
-    Fields {
-        letter,
-        first,
-        second,
-        third,
-    }
-}
-
-fn one(letter: u8, first: Number) -> Fields
-    ensures { λ f. ⌜ f ≡ record { letter = letter; first = first; second = Number.Nothing; third = Number.Nothing } ⌝ }
-{
-    three(letter, first, Number::Nothing, Number::Nothing)
-}
-
-fn two(letter: u8, first: u64, second: Number) -> Fields
-    ensures { λ f. ⌜ f ≡ record { letter = letter; first = Number.Unsigned first; second = second; third = Number.Nothing } ⌝ }
-{
-    three(letter, Number::Unsigned(first), second, Number::Nothing)
-}
-
-// The letter and the numbers of each reply.
-pub fn fields_of(r: Reply) -> Fields
-    ensures { λ f. ⌜ f ≡ fieldsOf r ⌝ }
-{
-    match r {
-        Reply::Opened { model, period } => two(b'O', model as u64, Number::Unsigned(period as u64)),
-        Reply::Residual(e) => one(b'E', Number::Signed(e)),
-        Reply::Missing => one(b'M', Number::Nothing),
-        Reply::Forecast { horizon, value } => two(b'F', horizon as u64, Number::Signed(value)),
-        Reply::Variance { horizon, high, low } => three(
-            b'V',
-            Number::Unsigned(horizon as u64),
-            Number::Unsigned(high),
-            Number::Unsigned(low),
-        ),
-        Reply::Saved(n) => one(b'S', Number::Hexadecimal(n)),
-        Reply::Rejected { code, offset } => two(b'X', code as u64, Number::Unsigned(offset as u64)),
-        Reply::Ended(count) => one(b'N', Number::Unsigned(count)),
-    }
-}
+ghost use Rattle.lines.specs.Lines.{numberBytes, fieldsBytes, Put};
 
 // So many of some bytes, or all of them where they are fewer.
 fn front(bytes: &[u8], n: u32) -> &[u8]

@@ -5,32 +5,13 @@ pub mod promises;
 
 pub use digits::magnitude;
 use fields::fields_length;
-use fields::fields_of;
 use fields::put_fields;
+use replies::Reply;
+use replies::fields_of;
 use state::SHORT_BUFFER;
 ghost use mathlib.Core.Path.{_≡_};
 ghost use lib.ListN.{length};
 ghost use Rattle.lines.specs.Lines.{writeLine, lineBytes};
-
-// The answer to a command, by the letter of its line.
-pub enum Reply {
-    // O
-    Opened { model: u8, period: u8 },
-    // E
-    Residual(i64),
-    // M
-    Missing,
-    // F
-    Forecast { horizon: u32, value: i64 },
-    // V
-    Variance { horizon: u32, high: u64, low: u64 },
-    // S: how many bytes were saved
-    Saved(u32),
-    // X
-    Rejected { code: u8, offset: usize },
-    // N
-    Ended(u64),
-}
 
 // The bytes of a line.
 pub enum Line {

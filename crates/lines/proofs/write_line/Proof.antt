@@ -3,7 +3,7 @@ use borrow.Author.Needs.{needs}
 use Rattle.lines.specs.declared.Line.the-variants as line-of
 use lib.Seq.{sets}
 use Rattle.lines.proofs.LineLaws.{short, long-enough}
-use Rattle.lines.specs.declared.fields.Fields.{Fields}
+use Rattle.replies.specs.declared.Fields.{Fields}
 use Rattle.lines.specs.Lines.{fieldsBytes, lineOf}
 use lib.ListN.{length}
 use mathlib.Core.Path.{_≡_, sym, ap, _∙_}

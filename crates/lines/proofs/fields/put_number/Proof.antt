@@ -1,7 +1,7 @@
 -- `lines::fields::put_number` meets its contract.
 use borrow.Author.Needs.{needs}
 use Rattle.lines.proofs.DigitLaws.{put-then, length-hexadecimal}
-use Rattle.lines.specs.declared.fields.Number.{Number}
+use Rattle.replies.specs.declared.Number.{Number}
 use Rattle.lines.specs.Lines.{numberBytes}
 use mir.ValLaws.{toZ-ofZ}
 use mir.Syntax.{w64}

@@ -1,10 +1,10 @@
 use mathlib.Core.Path.{sym, ap, _∙_}
 use mir.Syntax.{w64}
 use mir.ValLaws.{toZ-ofZ}
-use Rattle.lines.specs.Lines.{fieldsOf}
+use Rattle.replies.specs.Replies.{fieldsOf}
 use borrow.Author.Needs.{needs}
-use Rattle.lines.proofs.fields.fields_of.Statement.{statement}
-use Rattle.lines.proofs.fields.fields_of.Tie as tie
+use Rattle.replies.proofs.fields_of.Statement.{statement}
+use Rattle.replies.proofs.fields_of.Tie as tie
 
 enum-known-r : tie.Need-enum-known-r
 enum-known-r c = search needs

@@ -1,0 +1,83 @@
+// The answers to a stream's commands, each as a letter and up to three numbers: document 01, "The program's lines".
+ghost use mathlib.Core.Path.{_≡_};
+ghost use Rattle.replies.specs.Replies.{fieldsOf};
+
+// The answer to a command, by the letter of its line.
+pub enum Reply {
+    // O
+    Opened { model: u8, period: u8 },
+    // E
+    Residual(i64),
+    // M
+    Missing,
+    // F
+    Forecast { horizon: u32, value: i64 },
+    // V
+    Variance { horizon: u32, high: u64, low: u64 },
+    // S: how many bytes were saved
+    Saved(u32),
+    // X
+    Rejected { code: u8, offset: usize },
+    // N
+    Ended(u64),
+}
+
+// A number of a line, with the blank before it.
+pub enum Number {
+    Nothing,
+    Unsigned(u64),
+    Signed(i64),
+    // So many of the bytes saved.
+    Hexadecimal(u32),
+}
+
+pub struct Fields {
+    pub letter: u8,
+    pub first: Number,
+    pub second: Number,
+    pub third: Number,
+}
+
+fn three(letter: u8, first: Number, second: Number, third: Number) -> Fields
+    ensures { λ f. ⌜ f ≡ record { letter = letter; first = first; second = second; third = third } ⌝ }
+{
+    Fields {
+        letter,
+        first,
+        second,
+        third,
+    }
+}
+
+fn one(letter: u8, first: Number) -> Fields
+    ensures { λ f. ⌜ f ≡ record { letter = letter; first = first; second = Number.Nothing; third = Number.Nothing } ⌝ }
+{
+    three(letter, first, Number::Nothing, Number::Nothing)
+}
+
+fn two(letter: u8, first: u64, second: Number) -> Fields
+    ensures { λ f. ⌜ f ≡ record { letter = letter; first = Number.Unsigned first; second = second; third = Number.Nothing } ⌝ }
+{
+    three(letter, Number::Unsigned(first), second, Number::Nothing)
+}
+
+// The letter and the numbers of each reply.
+pub fn fields_of(r: Reply) -> Fields
+    ensures { λ f. ⌜ f ≡ fieldsOf r ⌝ }
+{
+    match r {
+        Reply::Opened { model, period } => two(b'O', model as u64, Number::Unsigned(period as u64)),
+        Reply::Residual(e) => one(b'E', Number::Signed(e)),
+        Reply::Missing => one(b'M', Number::Nothing),
+        Reply::Forecast { horizon, value } => two(b'F', horizon as u64, Number::Signed(value)),
+        Reply::Variance { horizon, high, low } => three(
+            b'V',
+            Number::Unsigned(horizon as u64),
+            Number::Unsigned(high),
+            Number::Unsigned(low),
+        ),
+        Reply::Saved(n) => one(b'S', Number::Hexadecimal(n)),
+        Reply::Rejected { code, offset } => two(b'X', code as u64, Number::Unsigned(offset as u64)),
+        Reply::Ended(count) => one(b'N', Number::Unsigned(count)),
+    }
+}
