@@ -3,18 +3,6 @@ use borrow.Author.Needs.{needs}
 use Rattle.forecasts.proofs.forecast_code_to.Statement.{statement}
 use Rattle.forecasts.proofs.forecast_code_to.Tie as tie
 
-check-requires : tie.Need-check-requires
-check-requires c κs = search needs
-
-horizon-ok-requires : tie.Need-horizon-ok-requires
-horizon-ok-requires c κs = search needs
-
-unless-requires : tie.Need-unless-requires
-unless-requires c κs = search needs
-
-first-requires : tie.Need-first-requires
-first-requires c κs = search needs
-
 returns : tie.Need-returns
 unfolding forecastCodeTo
 returns c =
@@ -23,4 +11,4 @@ returns c =
 
 pub forecast-code-to-spec : {M : Type 1} → statement M
 forecast-code-to-spec =
-    tie.close (tie.spec check-requires horizon-ok-requires unless-requires first-requires returns)
+    tie.close (tie.spec (λ c κs. search needs) (λ c κs. search needs) (λ c κs. search needs) (λ c κs. search needs) returns)

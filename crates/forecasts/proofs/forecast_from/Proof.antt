@@ -55,9 +55,6 @@ machine-is : (c : tie.After-trend-line) → toZ w64 (ofZ w64 (toZ w64 (ofZ w64 (
 machine-is c =
     rw (back w64 (c .trend-line .result) (c .trend-line .ok), toZ-ofZ (c .before .before .before .fits .season)) (toZ-ofZ (sum-fits c))
 
-from-code-requires : tie.Need-from-code-requires
-from-code-requires c κs = search needs
-
 returns : tie.Need-returns
 unfolding forecastFrom
 returns c = rw (code (c .before), ne-eqb _ _ (c .if1 .taken))
@@ -80,4 +77,4 @@ returns-2 c =
 
 pub forecast-from-spec : {M : Type 1} → statement M
 forecast-from-spec =
-    tie.close (tie.spec from-code-requires returns trend-line-requires add-t9 returns-2)
+    tie.close (tie.spec (λ c κs. search needs) returns trend-line-requires add-t9 returns-2)

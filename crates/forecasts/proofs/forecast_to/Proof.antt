@@ -34,9 +34,6 @@ machine-is : (c : tie.After-season-at) → toZ w64 (ofZ w64 (toZ w64 (ofZ w64 (c
 machine-is c =
     rw (back w64 (c .before .trend-line .result) (c .before .trend-line .ok), back w64 (c .season-at .result) (c .season-at .ok)) (toZ-ofZ w64 _ (sum-fits c))
 
-forecast-code-to-requires : tie.Need-forecast-code-to-requires
-forecast-code-to-requires c κs = search needs
-
 returns : tie.Need-returns
 unfolding forecastTo
 returns c = rw (← (c .before .forecast-code-to .ensures), ne-eqb _ _ (c .if1 .taken))
@@ -66,7 +63,7 @@ pub forecast-to-spec : {M : Type 1} → statement M
 forecast-to-spec =
     tie.close
     (tie.spec
-    forecast-code-to-requires
+    (λ c κs. search needs)
     returns
     trend-line-requires
     season-at-requires

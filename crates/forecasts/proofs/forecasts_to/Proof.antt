@@ -14,15 +14,6 @@ code : (c : tie.After-first) → let s = c .before .before .before .args in c .f
 unfolding forecastsCodeTo
 code c = rw (c .first .ensures, c .before .forecast-code-to .ensures, c .before .before .unless .ensures)
 
-unless-requires : tie.Need-unless-requires
-unless-requires c κs = search needs
-
-forecast-code-to-requires : tie.Need-forecast-code-to-requires
-forecast-code-to-requires c κs = search needs
-
-first-requires : tie.Need-first-requires
-first-requires c κs = search needs
-
 returns : tie.Need-returns
 unfolding forecastsTo forecastCellsTo
 returns c = rw (← (code (c .before)), ne-eqb _ _ (c .if1 .taken)) (refl, refl)
@@ -36,9 +27,6 @@ fill-requires c κs =
     let r = forecast-ready (s .args .limit) (s .args .s) (s .args .h) (z .0) in
     (valid _ (r .valid), omega (arith, r .most, s .pre), leb-true _ _ (unless-zero _ 11 (z .1)))
 
-same-length : tie.Need-same-length
-same-length c = search needs
-
 returns-2 : tie.Need-returns-2
 unfolding forecastsTo forecastCellsTo
 returns-2 c =
@@ -51,10 +39,10 @@ pub forecasts-to-spec : {M : Type 1} → statement M
 forecasts-to-spec =
     tie.close
     (tie.spec
-    unless-requires
-    forecast-code-to-requires
-    first-requires
+    (λ c κs. search needs)
+    (λ c κs. search needs)
+    (λ c κs. search needs)
     returns
     fill-requires
-    same-length
+    (λ c. search needs)
     returns-2)

@@ -10,12 +10,6 @@ use mathlib.Core.Path.{_≡_, sym, ap, _∙_}
 use Rattle.lines.proofs.write_line.Statement.{statement}
 use Rattle.lines.proofs.write_line.Tie as tie
 
-fields-of-requires : tie.Need-fields-of-requires
-fields-of-requires c κs = search needs
-
-fields-length-requires : tie.Need-fields-length-requires
-fields-length-requires c κs = search needs
-
 -- the bytes counted are the line's
 size : (r : tie.After-fields-length)
     → r .fields-length .result ≡ length (lineOf (r .before .before .before .before .args .reply) (r .before .before .before .before .args .saved .now))
@@ -30,12 +24,6 @@ returns c =
     let w = short (a .reply) (a .saved .now) (a .d .now) (rw (← (size (c .before))) (c .if1 .taken)) in
     (sym (w .0), sym (w .1))
 
-put-fields-requires : tie.Need-put-fields-requires
-put-fields-requires c κs = search needs
-
-same-length : tie.Need-same-length
-same-length c = search needs
-
 returns-2 : tie.Need-returns-2
 unfolding lineOf
 returns-2 c =
@@ -48,9 +36,9 @@ pub write-line-spec : {M : Type 1} → statement M
 write-line-spec =
     tie.close
     (tie.spec
-    fields-of-requires
-    fields-length-requires
+    (λ c κs. search needs)
+    (λ c κs. search needs)
     returns
-    put-fields-requires
-    same-length
+    (λ c κs. search needs)
+    (λ c. search needs)
     returns-2)

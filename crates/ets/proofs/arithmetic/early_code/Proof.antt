@@ -3,18 +3,6 @@ use borrow.Author.Needs.{needs}
 use Rattle.ets.proofs.arithmetic.early_code.Statement.{statement}
 use Rattle.ets.proofs.arithmetic.early_code.Tie as tie
 
-is-reading-requires : tie.Need-is-reading-requires
-is-reading-requires c κs = search needs
-
-unless-requires : tie.Need-unless-requires
-unless-requires c κs = search needs
-
-count-code-requires : tie.Need-count-code-requires
-count-code-requires c κs = search needs
-
-first-requires : tie.Need-first-requires
-first-requires c κs = search needs
-
 returns : tie.Need-returns
 returns c =
     let u = c .before .before in
@@ -23,4 +11,4 @@ returns c =
 pub early-code-spec : {M : Type 1} → statement M
 early-code-spec =
     tie.close
-    (tie.spec is-reading-requires unless-requires count-code-requires first-requires returns)
+    (tie.spec (λ c κs. search needs) (λ c κs. search needs) (λ c κs. search needs) (λ c κs. search needs) returns)

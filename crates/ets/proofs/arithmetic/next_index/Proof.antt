@@ -4,12 +4,6 @@ use borrow.Author.Needs.{needs}
 use Rattle.ets.proofs.arithmetic.next_index.Statement.{statement}
 use Rattle.ets.proofs.arithmetic.next_index.Tie as tie
 
-add-next : tie.Need-add-next
-add-next c = search needs
-
-cast-result : tie.Need-cast-result
-cast-result c = search needs
-
 returns : tie.Need-returns
 unfolding nextIndex
 returns c = rw (lt-ltb _ _ (c .if1 .taken))
@@ -19,4 +13,4 @@ unfolding nextIndex
 returns-2 c = rw (le-ltb _ _ (c .if1 .left))
 
 pub next-index-spec : {M : Type 1} → statement M
-next-index-spec = tie.close (tie.spec add-next cast-result returns returns-2)
+next-index-spec = tie.close (tie.spec (λ c. search needs) (λ c. search needs) returns returns-2)

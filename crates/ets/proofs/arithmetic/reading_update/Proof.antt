@@ -23,21 +23,12 @@ computed c =
     let s = r .before .before .before .before in
     rw (back w64 (r .residual .result) (r .residual .ok), r .residual .ensures .0, r .before .terms-at .ensures, toZ-ofZ (s .fits .y)) at (c .corrections .ensures)
 
-early-code-requires : tie.Need-early-code-requires
-early-code-requires c κs = search needs
-
-not-updated-requires : tie.Need-not-updated-requires
-not-updated-requires c κs = search needs
-
 returns : tie.Need-returns
 unfolding readingUpdate
 returns c =
     let k = c .before .before in
     let q : earlyCode (k .before .args .n .count) (k .before .args .y) ≡ 0 → ⊥ = λ z. c .before .if1 .taken (code k ∙ z) in
     rw (early-rejects (termsAt (k .before .args .n)) _ _ q, ← (code k), ne-eqb _ _ (c .before .if1 .taken)) (c .not-updated .ensures)
-
-terms-at-requires : tie.Need-terms-at-requires
-terms-at-requires c κs = search needs
 
 residual-requires : tie.Need-residual-requires
 residual-requires c κs =
@@ -48,12 +39,6 @@ corrections-requires : tie.Need-corrections-requires
 corrections-requires c κs =
     let e = c .before .before in
     rw (back w64 (c .residual .result) (c .residual .ok)) (rw (c .before .terms-at .ensures) (terms-in (e .before .before .pre)), c .residual .ensures .1)
-
-stays-requires : tie.Need-stays-requires
-stays-requires c κs = search needs
-
-not-updated-requires-2 : tie.Need-not-updated-requires-2
-not-updated-requires-2 c κs = search needs
 
 returns-2 : tie.Need-returns-2
 unfolding readingUpdate corrections
@@ -73,13 +58,13 @@ pub reading-update-spec : {M : Type 1} → statement M
 reading-update-spec =
     tie.close
     (tie.spec
-    early-code-requires
-    not-updated-requires
+    (λ c κs. search needs)
+    (λ c κs. search needs)
     returns
-    terms-at-requires
+    (λ c κs. search needs)
     residual-requires
     corrections-requires
-    stays-requires
-    not-updated-requires-2
+    (λ c κs. search needs)
+    (λ c κs. search needs)
     returns-2
     returns-3)

@@ -18,9 +18,6 @@ product c = within-mul (c .pre .0) (c .pre .1)
 product-fits : (c : tie.Start) → SFits w64 (pos (c .args .a) *ℤ c .args .x)
 product-fits c = within-fits w64 (product c) (omega arith)
 
-cast-round : tie.Need-cast-round
-cast-round c = search needs
-
 mul-round : tie.Need-mul-round
 mul-round c = simp (toZ-ofZ w64 (pos (c .args .a)) (search needs), toZ-ofZ, c .fits .x) (product-fits c)
 
@@ -35,4 +32,4 @@ returns c =
     back w64 (c .round .result) (c .round .ok) ∙ c .round .ensures ∙ ap R (simp (toZ-ofZ w64 (pos (s .args .a)) (search needs), toZ-ofZ, s .fits .x, product-fits s))
 
 pub share-spec : {M : Type 1} → statement M
-share-spec = tie.close (tie.spec cast-round mul-round round-requires returns)
+share-spec = tie.close (tie.spec (λ c. search needs) mul-round round-requires returns)

@@ -4,15 +4,6 @@ use borrow.Author.Needs.{needs}
 use Rattle.ets.proofs.arithmetic.stays.Statement.{statement}
 use Rattle.ets.proofs.arithmetic.stays.Tie as tie
 
-in-range-requires : tie.Need-in-range-requires
-in-range-requires c κs = search needs
-
-in-range-requires-2 : tie.Need-in-range-requires-2
-in-range-requires-2 c κs = search needs
-
-in-range-requires-3 : tie.Need-in-range-requires-3
-in-range-requires-3 c κs = search needs
-
 returns : tie.Need-returns
 returns c =
     let v = c .before .before .before .before .before .before .args .u in
@@ -20,4 +11,4 @@ returns c =
     rw (c .in-range3 .ensures, c .before .before .in-range2 .ensures, c .before .before .before .before .in-range .ensures, back w64 (v .level) (t .1 .0 .1), back w64 (v .trend) (t .1 .1 .0 .1), back w64 (v .season) (t .1 .1 .1 .0 .1))
 
 pub stays-spec : {M : Type 1} → statement M
-stays-spec = tie.close (tie.spec in-range-requires in-range-requires-2 in-range-requires-3 returns)
+stays-spec = tie.close (tie.spec (λ c κs. search needs) (λ c κs. search needs) (λ c κs. search needs) returns)

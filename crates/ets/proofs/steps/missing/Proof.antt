@@ -13,20 +13,8 @@ code c = rw (c .first .ensures, c .before .count-code .ensures, c .before .befor
 facts : (c : tie.Else1) → AcceptedMissing (c .before .before .before .before .args .s)
 facts c = missing-facts _ (sym (code (c .before)) ∙ c .if1 .left)
 
-check-requires : tie.Need-check-requires
-check-requires c κs = search needs
-
-count-code-requires : tie.Need-count-code-requires
-count-code-requires c κs = search needs
-
-first-requires : tie.Need-first-requires
-first-requires c κs = search needs
-
 returns : tie.Need-returns
 returns c = sym (missing-rejected (c .before .before .before .before .args .s) (c .before .first .result) (sym (code (c .before))) (c .if1 .taken))
-
-next-index-requires : tie.Need-next-index-requires
-next-index-requires c κs = search needs
 
 add-next : tie.Need-add-next
 add-next c = let f = facts (c .before .before) in omega (arith, f .room)
@@ -40,10 +28,10 @@ pub missing-spec : {M : Type 1} → statement M
 missing-spec =
     tie.close
     (tie.spec
-    check-requires
-    count-code-requires
-    first-requires
+    (λ c κs. search needs)
+    (λ c κs. search needs)
+    (λ c κs. search needs)
     returns
-    next-index-requires
+    (λ c κs. search needs)
     add-next
     returns-2)

@@ -28,12 +28,6 @@ numbers-are c = rw (c .before .numbers-of .ensures, toZ-ofZ (c .before .before .
 code-is : (c : tie.After-reading-update) → let s = c .before .before .before .before .args in c .reading-update .result .code ≡ stepCode (s .s) (s .y)
 code-is c = ap (λ (u : Update). u .code) (numbers-are c) ∙ read-code _ (passes (c .before .before)) _
 
-check-requires : tie.Need-check-requires
-check-requires c κs = search needs
-
-rejected-step-requires : tie.Need-rejected-step-requires
-rejected-step-requires c κs = search needs
-
 returns : tie.Need-returns
 returns c =
     let k = c .before .before in
@@ -47,9 +41,6 @@ numbers-of-requires c κs = facts c .bounded .index
 
 reading-update-requires : tie.Need-reading-update-requires
 reading-update-requires c κs = rw (c .numbers-of .ensures) (numbers-in _ (facts (c .before)))
-
-rejected-step-requires-2 : tie.Need-rejected-step-requires-2
-rejected-step-requires-2 c κs = search needs
 
 returns-2 : tie.Need-returns-2
 returns-2 c =
@@ -77,12 +68,12 @@ pub step-spec : {M : Type 1} → statement M
 step-spec =
     tie.close
     (tie.spec
-    check-requires
-    rejected-step-requires
+    (λ c κs. search needs)
+    (λ c κs. search needs)
     returns
     numbers-of-requires
     reading-update-requires
-    rejected-step-requires-2
+    (λ c κs. search needs)
     returns-2
     store-requires
     returns-3)

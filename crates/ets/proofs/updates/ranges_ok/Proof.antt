@@ -4,15 +4,6 @@ use borrow.Author.Needs.{needs}
 use Rattle.ets.proofs.updates.ranges_ok.Statement.{statement}
 use Rattle.ets.proofs.updates.ranges_ok.Tie as tie
 
-in-range-requires : tie.Need-in-range-requires
-in-range-requires c κs = search needs
-
-in-range-requires-2 : tie.Need-in-range-requires-2
-in-range-requires-2 c κs = search needs
-
-in-range-requires-3 : tie.Need-in-range-requires-3
-in-range-requires-3 c κs = search needs
-
 returns : tie.Need-returns
 returns c =
     let n = c .before .before .before .before .before .before .args .n in
@@ -21,4 +12,4 @@ returns c =
 
 pub ranges-ok-spec : {M : Type 1} → statement M
 ranges-ok-spec =
-    tie.close (tie.spec in-range-requires in-range-requires-2 in-range-requires-3 returns)
+    tie.close (tie.spec (λ c κs. search needs) (λ c κs. search needs) (λ c κs. search needs) returns)

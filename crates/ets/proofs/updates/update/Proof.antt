@@ -7,12 +7,6 @@ use borrow.Author.Needs.{needs}
 use Rattle.ets.proofs.updates.update.Statement.{statement}
 use Rattle.ets.proofs.updates.update.Tie as tie
 
-numbers-code-requires : tie.Need-numbers-code-requires
-numbers-code-requires c κs = search needs
-
-not-updated-requires : tie.Need-not-updated-requires
-not-updated-requires c κs = search needs
-
 returns : tie.Need-returns
 unfolding update
 returns c = rw (← (c .before .before .numbers-code .ensures), ne-eqb _ _ (c .before .if1 .taken)) (c .not-updated .ensures)
@@ -28,4 +22,4 @@ returns-2 c =
 
 pub update-spec : {M : Type 1} → statement M
 update-spec =
-    tie.close (tie.spec numbers-code-requires not-updated-requires returns reading-update-requires returns-2)
+    tie.close (tie.spec (λ c κs. search needs) (λ c κs. search needs) returns reading-update-requires returns-2)

@@ -104,21 +104,6 @@ module _ (c : tie.After-season Inv-loop μ-loop) where
 add-values : tie.Need-add-values Inv-loop μ-loop
 add-values c = rw (value-is c) (value-fits c)
 
-mul-t13 : tie.Need-mul-t13 Inv-loop μ-loop
-mul-t13 c = search needs
-
-slice-set-from-values : tie.Need-slice-set-from-values Inv-loop μ-loop
-slice-set-from-values c = search needs
-
-next-index-requires : tie.Need-next-index-requires Inv-loop μ-loop
-next-index-requires c κs = search needs
-
-add-i : tie.Need-add-i Inv-loop μ-loop
-add-i c = search needs
-
-loop-less : tie.Need-loop-less Inv-loop μ-loop
-loop-less c = search needs
-
 loop-again : tie.Need-loop-again Inv-loop μ-loop
 unfolding ahead
 loop-again c =
@@ -131,9 +116,6 @@ loop-again c =
       simp length-set (at f .loop .inv .4),
       rw add-one (stored-is f),
     )
-
-same-length : tie.Need-same-length Inv-loop μ-loop
-same-length c = search needs
 
 returns : tie.Need-returns Inv-loop μ-loop
 returns c =
@@ -154,11 +136,11 @@ fill-spec =
     mul-season
     element-copy-out-season
     add-values
-    mul-t13
-    slice-set-from-values
-    next-index-requires
-    add-i
-    loop-less
+    (λ c. search needs)
+    (λ c. search needs)
+    (λ c κs. search needs)
+    (λ c. search needs)
+    (λ c. search needs)
     loop-again
-    same-length
+    (λ c. search needs)
     returns)

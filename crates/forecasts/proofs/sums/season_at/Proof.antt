@@ -27,24 +27,9 @@ index-in c =
     let q = seasonal-at c in
     omega (arith, mod-lt (s .args .t1 .index + s .args .h - 1) {m = s .args .t1 .period} (omega arith), s .pre .0 .bounded .period)
 
-has-season-requires : tie.Need-has-season-requires
-has-season-requires c κs = search needs
-
 returns : tie.Need-returns
 unfolding seasonAt
 returns c = rw (sym (c .before .has-season .ensures) ∙ not-true _ (c .if1 .taken)) (refl, within-zero 1099511627776)
-
-cast-p : tie.Need-cast-p
-cast-p c = search needs
-
-cast-m : tie.Need-cast-m
-cast-m c = search needs
-
-add-k : tie.Need-add-k
-add-k c = search needs
-
-sub-k : tie.Need-sub-k
-sub-k c = search needs
 
 rem-k : tie.Need-rem-k
 rem-k c = let s = seasonal-at c in omega arith
@@ -68,12 +53,12 @@ pub season-at-spec : {M : Type 1} → statement M
 season-at-spec =
     tie.close
     (tie.spec
-    has-season-requires
+    (λ c κs. search needs)
     returns
-    cast-p
-    cast-m
-    add-k
-    sub-k
+    (λ c. search needs)
+    (λ c. search needs)
+    (λ c. search needs)
+    (λ c. search needs)
     rem-k
     cast-k
     mul-result

@@ -20,9 +20,6 @@ product-fits c = within-fits w64 (product c) (omega arith)
 sum-fits : (c : tie.Start) → SFits w64 (pos (c .args .a) *ℤ c .args .x +ℤ pos 32768)
 sum-fits c = let v = pos (c .args .a) *ℤ c .args .x in let p = product c in omega (ints, sum v (pos 32768), fits-range (product-fits c))
 
-cast-result : tie.Need-cast-result
-cast-result c = search needs
-
 mul-result : tie.Need-mul-result
 mul-result c = simp (toZ-ofZ w64 (pos (c .args .a)) (search needs), toZ-ofZ, c .fits .x) (product-fits c)
 
@@ -34,4 +31,4 @@ unfolding R share
 returns c = simp (toZ-ofZ w64 (pos (c .args .a)) (search needs), toZ-ofZ, c .fits .x, product-fits c, sum-fits c, fits-shr 65536 (sum-fits c))
 
 pub share-spec : {M : Type 1} → statement M
-share-spec = tie.close (tie.spec cast-result mul-result add-result returns)
+share-spec = tie.close (tie.spec (λ c. search needs) mul-result add-result returns)

@@ -45,12 +45,6 @@ share-requires c κs =
 add-line : tie.Need-add-line Inv-loop μ-loop
 add-line c = turn-at c .fits
 
-add-j : tie.Need-add-j Inv-loop μ-loop
-add-j c = search needs
-
-loop-less : tie.Need-loop-less Inv-loop μ-loop
-loop-less c = search needs
-
 loop-again : tie.Need-loop-again Inv-loop μ-loop
 loop-again c = let t = turn-at c in (search needs, rw add-one (t .trend), rw add-one (t .line-is))
 
@@ -64,4 +58,4 @@ returns c =
 pub trend-line-spec : {M : Type 1} → statement M
 trend-line-spec =
     tie.close
-    (tie.spec Inv-loop μ-loop loop-holds share-requires add-line add-j loop-less loop-again returns)
+    (tie.spec Inv-loop μ-loop loop-holds share-requires add-line (λ c. search needs) (λ c. search needs) loop-again returns)

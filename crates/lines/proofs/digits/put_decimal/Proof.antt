@@ -6,17 +6,8 @@ use Rattle.lines.proofs.DigitLaws.{length-decimal}
 use Rattle.lines.proofs.digits.put_decimal.Statement.{statement}
 use Rattle.lines.proofs.digits.put_decimal.Tie as tie
 
-digit-count-requires : tie.Need-digit-count-requires
-digit-count-requires c κs = search needs
-
 put-digits-requires : tie.Need-put-digits-requires
 put-digits-requires c κs = omega (arith, length-decimal (c .before .before .before .args .n))
-
-add-result : tie.Need-add-result
-add-result c = search needs
-
-same-length : tie.Need-same-length
-same-length c = search needs
 
 returns : tie.Need-returns
 unfolding decimal
@@ -28,4 +19,4 @@ returns c =
 
 pub put-decimal-spec : {M : Type 1} → statement M
 put-decimal-spec =
-    tie.close (tie.spec digit-count-requires put-digits-requires add-result same-length returns)
+    tie.close (tie.spec (λ c κs. search needs) put-digits-requires (λ c. search needs) (λ c. search needs) returns)

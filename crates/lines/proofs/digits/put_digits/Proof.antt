@@ -15,34 +15,10 @@ Inv-loop d₀ at k n rest₀ i₀ d rest i = (length d ≡ length d₀) × (i �
 abbrev μ-loop : tie.MeasureT-loop
 μ-loop d₀ at k n rest₀ i₀ d rest i = i
 
-loop-holds : tie.Need-loop-holds Inv-loop μ-loop
-loop-holds c = search needs
-
-sub-i : tie.Need-sub-i Inv-loop μ-loop
-sub-i c = search needs
-
-add-d : tie.Need-add-d Inv-loop μ-loop
-add-d c = search needs
-
-cast-d : tie.Need-cast-d Inv-loop μ-loop
-cast-d c = search needs
-
-add-d-2 : tie.Need-add-d-2 Inv-loop μ-loop
-add-d-2 c = search needs
-
-slice-write-d : tie.Need-slice-write-d Inv-loop μ-loop
-slice-write-d c = search needs
-
-loop-less : tie.Need-loop-less Inv-loop μ-loop
-loop-less c = search needs
-
 loop-again : tie.Need-loop-again Inv-loop μ-loop
 loop-again c =
     let e : c .before .loop .i ≡ suc (c .before .loop .i - 1) = omega arith in
     (search needs, search needs, digits-more _ _ _ _ ∙ rw e at (c .before .loop .inv .2))
-
-same-length : tie.Need-same-length Inv-loop μ-loop
-same-length c = search needs
 
 returns : tie.Need-returns Inv-loop μ-loop
 unfolding digits
@@ -56,13 +32,13 @@ put-digits-spec =
     (tie.spec
     Inv-loop
     μ-loop
-    loop-holds
-    sub-i
-    add-d
-    cast-d
-    add-d-2
-    slice-write-d
-    loop-less
+    (λ c. search needs)
+    (λ c. search needs)
+    (λ c. search needs)
+    (λ c. search needs)
+    (λ c. search needs)
+    (λ c. search needs)
+    (λ c. search needs)
     loop-again
-    same-length
+    (λ c. search needs)
     returns)

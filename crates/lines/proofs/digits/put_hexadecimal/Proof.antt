@@ -20,35 +20,8 @@ abbrev μ-loop : tie.MeasureT-loop
 loop-holds : tie.Need-loop-holds Inv-loop μ-loop
 loop-holds c = (search needs, search needs, rw add-zero)
 
-mul-put-hex-byte : tie.Need-mul-put-hex-byte Inv-loop μ-loop
-mul-put-hex-byte c = search needs
-
-add-put-hex-byte : tie.Need-add-put-hex-byte Inv-loop μ-loop
-add-put-hex-byte c = search needs
-
-shared-slice-read-put-hex-byte : tie.Need-shared-slice-read-put-hex-byte Inv-loop μ-loop
-shared-slice-read-put-hex-byte c = search needs
-
-put-hex-byte-requires : tie.Need-put-hex-byte-requires Inv-loop μ-loop
-put-hex-byte-requires c κs = search needs
-
-add-i : tie.Need-add-i Inv-loop μ-loop
-add-i c = search needs
-
-loop-less : tie.Need-loop-less Inv-loop μ-loop
-loop-less c = search needs
-
 loop-again : tie.Need-loop-again Inv-loop μ-loop
 loop-again c = (search needs, search needs, rw (c .before .before .put-hex-byte .ensures) (hex-more _ _ _ _ (c .before .before .before .before .before .loop-test .taken) ∙ c .before .before .before .before .before .before .loop .inv .2))
-
-mul-result : tie.Need-mul-result Inv-loop μ-loop
-mul-result c = search needs
-
-add-result : tie.Need-add-result Inv-loop μ-loop
-add-result c = search needs
-
-same-length : tie.Need-same-length Inv-loop μ-loop
-same-length c = search needs
 
 returns : tie.Need-returns Inv-loop μ-loop
 unfolding hexadecimal
@@ -64,14 +37,14 @@ put-hexadecimal-spec =
     Inv-loop
     μ-loop
     loop-holds
-    mul-put-hex-byte
-    add-put-hex-byte
-    shared-slice-read-put-hex-byte
-    put-hex-byte-requires
-    add-i
-    loop-less
+    (λ c. search needs)
+    (λ c. search needs)
+    (λ c. search needs)
+    (λ c κs. search needs)
+    (λ c. search needs)
+    (λ c. search needs)
     loop-again
-    mul-result
-    add-result
-    same-length
+    (λ c. search needs)
+    (λ c. search needs)
+    (λ c. search needs)
     returns)

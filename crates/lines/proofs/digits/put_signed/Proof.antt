@@ -11,9 +11,6 @@ use Rattle.lines.proofs.DigitLaws.{signed-negative, signed-nonnegative,
 use Rattle.lines.proofs.digits.put_signed.Statement.{statement}
 use Rattle.lines.proofs.digits.put_signed.Tie as tie
 
-magnitude-requires : tie.Need-magnitude-requires
-magnitude-requires c κs = search needs
-
 -- what is to be written of a negative number, and of another
 minus : (c : tie.Then1) → signedDecimal (c .before .before .before .args .z) ≡ 45 ∷ decimal (c .before .magnitude .result)
 minus c =
@@ -31,9 +28,6 @@ put-byte-requires c κs = omega (arith, ap length (minus (c .before)))
 put-decimal-requires : tie.Need-put-decimal-requires
 put-decimal-requires c κs = omega (arith, ap length (minus (c .before .before .before .before .before)))
 
-same-length : tie.Need-same-length
-same-length c = search needs
-
 returns : tie.Need-returns
 returns c =
     rw (minus (c .before .before .before .before .before .before .before .before))
@@ -42,9 +36,6 @@ returns c =
 put-decimal-requires-2 : tie.Need-put-decimal-requires-2
 put-decimal-requires-2 c κs = omega (arith, ap length (plain (c .before)))
 
-same-length-2 : tie.Need-same-length-2
-same-length-2 c = search needs
-
 returns-2 : tie.Need-returns-2
 returns-2 c = rw (plain (c .before .before .before .before)) (c .before .before .put-decimal2 .ensures)
 
@@ -52,11 +43,11 @@ pub put-signed-spec : {M : Type 1} → statement M
 put-signed-spec =
     tie.close
     (tie.spec
-    magnitude-requires
+    (λ c κs. search needs)
     put-byte-requires
     put-decimal-requires
-    same-length
+    (λ c. search needs)
     returns
     put-decimal-requires-2
-    same-length-2
+    (λ c. search needs)
     returns-2)

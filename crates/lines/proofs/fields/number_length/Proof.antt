@@ -11,48 +11,6 @@ use mathlib.Core.Path.{_≡_, ap, _∙_}
 use Rattle.lines.proofs.fields.number_length.Statement.{statement}
 use Rattle.lines.proofs.fields.number_length.Tie as tie
 
-enum-told : tie.Need-enum-told
-enum-told c = search needs
-
-enum-known-x : tie.Need-enum-known-x
-enum-known-x c = search needs
-
-digit-count-requires : tie.Need-digit-count-requires
-digit-count-requires c κs = search needs
-
-add-result : tie.Need-add-result
-add-result c = search needs
-
-enum-known-x-2 : tie.Need-enum-known-x-2
-enum-known-x-2 c = search needs
-
-magnitude-requires : tie.Need-magnitude-requires
-magnitude-requires c κs = search needs
-
-digit-count-requires-2 : tie.Need-digit-count-requires-2
-digit-count-requires-2 c κs = search needs
-
-add-result-2 : tie.Need-add-result-2
-add-result-2 c = search needs
-
-add-result-3 : tie.Need-add-result-3
-add-result-3 c = search needs
-
-enum-known-x-3 : tie.Need-enum-known-x-3
-enum-known-x-3 c = search needs
-
-front-requires : tie.Need-front-requires
-front-requires c κs = search needs
-
-mul-result : tie.Need-mul-result
-mul-result c = search needs
-
-add-result-4 : tie.Need-add-result-4
-add-result-4 c = search needs
-
-returns : tie.Need-returns
-returns c = search needs
-
 returns-2 : tie.Need-returns-2
 returns-2 c =
     let x = c .before .before .x .given in
@@ -84,20 +42,20 @@ pub number-length-spec : {M : Type 1} → statement M
 number-length-spec =
     tie.close
     (tie.spec
-    enum-told
-    enum-known-x
-    digit-count-requires
-    add-result
-    enum-known-x-2
-    magnitude-requires
-    digit-count-requires-2
-    add-result-2
-    add-result-3
-    enum-known-x-3
-    front-requires
-    mul-result
-    add-result-4
-    returns
+    (λ c. search needs)
+    (λ c. search needs)
+    (λ c κs. search needs)
+    (λ c. search needs)
+    (λ c. search needs)
+    (λ c κs. search needs)
+    (λ c κs. search needs)
+    (λ c. search needs)
+    (λ c. search needs)
+    (λ c. search needs)
+    (λ c κs. search needs)
+    (λ c. search needs)
+    (λ c. search needs)
+    (λ c. search needs)
     returns-2
     returns-3
     returns-4

@@ -32,9 +32,6 @@ put-byte-requires-2 c κs =
     let a = c .before .before .before .before .before .before .before .before .before .before .before .before .before .before .before .before .before .before .before .args in
     omega (arith, length-fields (a .saved .now) (a .f))
 
-same-length : tie.Need-same-length
-same-length c = search needs
-
 returns : tie.Need-returns
 unfolding fieldsBytes
 returns c =
@@ -53,5 +50,5 @@ put-fields-spec =
     put-number-requires-2
     put-number-requires-3
     put-byte-requires-2
-    same-length
+    (λ c. search needs)
     returns)

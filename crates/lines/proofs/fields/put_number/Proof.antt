@@ -14,17 +14,11 @@ use Rattle.lines.proofs.fields.put_number.Tie as tie
 enum-told : tie.Need-enum-told
 enum-told c = search needs
 
-enum-known-x : tie.Need-enum-known-x
-enum-known-x c = search needs
-
 put-byte-requires : tie.Need-put-byte-requires
 put-byte-requires c κs = omega (arith, ap (λ (x : Number). length (numberBytes (c .before .before .before .before .before .before .args .saved .now) x)) (c .before .before .x .given .1))
 
 put-decimal-requires : tie.Need-put-decimal-requires
 put-decimal-requires c κs = omega (arith, ap (λ (x : Number). length (numberBytes (c .before .before .before .before .before .before .before .before .before .before .args .saved .now) x)) (c .before .before .before .before .before .before .x .given .1))
-
-enum-known-x-2 : tie.Need-enum-known-x-2
-enum-known-x-2 c = search needs
 
 put-byte-requires-2 : tie.Need-put-byte-requires-2
 put-byte-requires-2 c κs = omega (arith, ap (λ (x : Number). length (numberBytes (c .before .before .before .before .before .before .args .saved .now) x)) (c .before .before .x2 .given .1))
@@ -32,14 +26,8 @@ put-byte-requires-2 c κs = omega (arith, ap (λ (x : Number). length (numberByt
 put-signed-requires : tie.Need-put-signed-requires
 put-signed-requires c κs = rw (toZ-ofZ w64 (c .before .before .before .before .before .before .x2 .given .0 .0) (search needs)) (omega (arith, ap (λ (x : Number). length (numberBytes (c .before .before .before .before .before .before .before .before .before .before .args .saved .now) x)) (c .before .before .before .before .before .before .x2 .given .1)))
 
-enum-known-x-3 : tie.Need-enum-known-x-3
-enum-known-x-3 c = search needs
-
 put-byte-requires-3 : tie.Need-put-byte-requires-3
 put-byte-requires-3 c κs = omega (arith, ap (λ (x : Number). length (numberBytes (c .before .before .before .before .before .before .args .saved .now) x)) (c .before .before .x3 .given .1))
-
-front-requires : tie.Need-front-requires
-front-requires c κs = search needs
 
 put-hexadecimal-requires : tie.Need-put-hexadecimal-requires
 put-hexadecimal-requires c κs =
@@ -49,22 +37,13 @@ put-hexadecimal-requires c κs =
 returns : tie.Need-returns
 returns c = rw (c .enum-told .given .1) (record { past = omega arith; stored = refl })
 
-same-length : tie.Need-same-length
-same-length c = search needs
-
 returns-2 : tie.Need-returns-2
 returns-2 c = rw (c .before .before .before .before .before .before .before .before .before .x .given .1) (put-then (c .before .before .before .before .before .before .put-byte .ensures) (c .before .before .put-decimal .ensures))
-
-same-length-2 : tie.Need-same-length-2
-same-length-2 c = search needs
 
 returns-3 : tie.Need-returns-3
 returns-3 c =
     let x = c .before .before .before .before .before .before .before .before .before .x2 .given in
     rw (x .1) (put-then (c .before .before .before .before .before .before .put-byte2 .ensures) (rw (toZ-ofZ w64 (x .0 .0) (search needs)) at (c .before .before .put-signed .ensures)))
-
-same-length-3 : tie.Need-same-length-3
-same-length-3 c = search needs
 
 returns-4 : tie.Need-returns-4
 returns-4 c = rw (c .before .before .before .before .before .before .before .before .before .before .x3 .given .1) (put-then (c .before .before .before .before .before .before .before .put-byte3 .ensures) (rw (c .before .before .before .front .ensures .0) at (c .before .before .put-hexadecimal .ensures)))
@@ -74,20 +53,20 @@ put-number-spec =
     tie.close
     (tie.spec
     enum-told
-    enum-known-x
+    (λ c. search needs)
     put-byte-requires
     put-decimal-requires
-    enum-known-x-2
+    (λ c. search needs)
     put-byte-requires-2
     put-signed-requires
-    enum-known-x-3
+    (λ c. search needs)
     put-byte-requires-3
-    front-requires
+    (λ c κs. search needs)
     put-hexadecimal-requires
     returns
-    same-length
+    (λ c. search needs)
     returns-2
-    same-length-2
+    (λ c. search needs)
     returns-3
-    same-length-3
+    (λ c. search needs)
     returns-4)

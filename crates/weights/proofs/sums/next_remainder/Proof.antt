@@ -5,9 +5,6 @@ use borrow.Author.Tests.{eq-eqb, ne-eqb}
 use Rattle.weights.proofs.sums.next_remainder.Statement.{statement}
 use Rattle.weights.proofs.sums.next_remainder.Tie as tie
 
-add-n : tie.Need-add-n
-add-n c = search needs
-
 returns : tie.Need-returns
 returns c = rw (eq-eqb _ _ (c .if1 .taken)) (refl, omega arith)
 
@@ -15,4 +12,4 @@ returns-2 : tie.Need-returns-2
 returns-2 c = rw (ne-eqb _ _ (c .if1 .left)) (refl, omega arith)
 
 pub next-remainder-spec : {M : Type 1} → statement M
-next-remainder-spec = tie.close (tie.spec add-n returns returns-2)
+next-remainder-spec = tie.close (tie.spec (λ c. search needs) returns returns-2)

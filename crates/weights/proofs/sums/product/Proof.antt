@@ -31,15 +31,9 @@ mul-mid c = omega (arith, mid-small c)
 add-mid : tie.Need-add-mid
 add-mid c = omega (arith, mid-small c, low-small c)
 
-mul-t7 : tie.Need-mul-t7
-mul-t7 c = search needs
-
-add-t10 : tie.Need-add-t10
-add-t10 c = search needs
-
 returns : tie.Need-returns
 returns c =
     ap₂ variance-of.Accepted (omega (arith, split c, mid-small c, low-small c)) (omega (arith, split c, mid-small c, low-small c))
 
 pub product-spec : {M : Type 1} → statement M
-product-spec = tie.close (tie.spec mul-low mul-mid add-mid mul-t7 add-t10 returns)
+product-spec = tie.close (tie.spec mul-low mul-mid add-mid (λ c. search needs) (λ c. search needs) returns)

@@ -19,11 +19,8 @@ mul-result c = omega (arith, straight (c .before .before))
 returns-2 : tie.Need-returns-2
 returns-2 c = rw (ne-eqb _ 0 (c .before .if1 .left), c .if2 .taken) (refl, straight (c .before .before))
 
-share-requires : tie.Need-share-requires
-share-requires c κs = search needs
-
 returns-3 : tie.Need-returns-3
 returns-3 c = rw (ne-eqb _ 0 (c .before .before .if1 .left), ne-eqb _ 1 (c .before .if2 .left)) (c .share .ensures .0, omega (arith, c .share .ensures .1))
 
 pub trend-term-spec : {M : Type 1} → statement M
-trend-term-spec = tie.close (tie.spec returns mul-result returns-2 share-requires returns-3)
+trend-term-spec = tie.close (tie.spec returns mul-result returns-2 (λ c κs. search needs) returns-3)

@@ -71,9 +71,6 @@ module _ (c : tie.After-season-term Inv-loop μ-loop) where
       let turn = c .before .before .before in
       coefficient-is (s at) (j at) (facts at) (at .before .before .trend-of .ensures) (p-is (turn .before)) (k-is turn) (c .before .trend-term .ensures .0) (c .season-term .ensures .0)
 
-trend-of-requires : tie.Need-trend-of-requires Inv-loop μ-loop
-trend-of-requires c κs = search needs
-
 loop-holds : tie.Need-loop-holds Inv-loop μ-loop
 unfolding dampingSum squares weightOf
 loop-holds c = search (needs, zero-mod)
@@ -87,17 +84,11 @@ share-requires c κs = let b = bounds c in omega arith
 next-remainder-requires : tie.Need-next-remainder-requires Inv-loop μ-loop
 next-remainder-requires c κs = omega arith
 
-cast-c : tie.Need-cast-c Inv-loop μ-loop
-cast-c c = search needs
-
 trend-term-requires : tie.Need-trend-term-requires Inv-loop μ-loop
 trend-term-requires c κs = let b = bounds (c .before .before .before) in omega arith
 
 add-c : tie.Need-add-c Inv-loop μ-loop
 add-c c = let b = bounds (c .before .before .before .before) in omega arith
-
-season-term-requires : tie.Need-season-term-requires Inv-loop μ-loop
-season-term-requires c κs = search needs
 
 add-c-2 : tie.Need-add-c-2 Inv-loop μ-loop
 add-c-2 c = omega (arith, coef-small c)
@@ -107,12 +98,6 @@ mul-sum c = omega (arith, square-small c)
 
 add-sum : tie.Need-add-sum Inv-loop μ-loop
 add-sum c = omega (arith, square-small c)
-
-add-j : tie.Need-add-j Inv-loop μ-loop
-add-j c = search needs
-
-loop-less : tie.Need-loop-less Inv-loop μ-loop
-loop-less c = search needs
 
 loop-again : tie.Need-loop-again Inv-loop μ-loop
 loop-again c =
@@ -140,19 +125,19 @@ weight-of-spec =
     (tie.spec
     Inv-loop
     μ-loop
-    trend-of-requires
+    (λ c κs. search needs)
     loop-holds
     add-share
     share-requires
     next-remainder-requires
-    cast-c
+    (λ c. search needs)
     trend-term-requires
     add-c
-    season-term-requires
+    (λ c κs. search needs)
     add-c-2
     mul-sum
     add-sum
-    add-j
-    loop-less
+    (λ c. search needs)
+    (λ c. search needs)
     loop-again
     returns)

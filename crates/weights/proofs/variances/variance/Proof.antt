@@ -7,17 +7,11 @@ use Rattle.weights.specs.Weights.{variance}
 use Rattle.weights.proofs.variances.variance.Statement.{statement}
 use Rattle.weights.proofs.variances.variance.Tie as tie
 
-forecast-code-requires : tie.Need-forecast-code-requires
-forecast-code-requires c κs = search needs
-
 weight-of-requires : tie.Need-weight-of-requires
 weight-of-requires c κs =
     let s = c .before .before .args in
     let r = forecast-ready 512 (s .s) (s .h) (sym (c .before .forecast-code .ensures) ∙ c .if1 .taken) in
     (valid _ (r .valid), r .least, r .most)
-
-product-requires : tie.Need-product-requires
-product-requires c κs = search needs
 
 returns : tie.Need-returns
 unfolding variance
@@ -31,4 +25,4 @@ returns-2 c = rw (← (c .before .forecast-code .ensures), ne-eqb _ 0 (c .if1 .l
 
 pub variance-spec : {M : Type 1} → statement M
 variance-spec =
-    tie.close (tie.spec forecast-code-requires weight-of-requires product-requires returns returns-2)
+    tie.close (tie.spec (λ c κs. search needs) weight-of-requires (λ c κs. search needs) returns returns-2)

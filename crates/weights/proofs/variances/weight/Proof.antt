@@ -7,9 +7,6 @@ use Rattle.weights.specs.Weights.{weight}
 use Rattle.weights.proofs.variances.weight.Statement.{statement}
 use Rattle.weights.proofs.variances.weight.Tie as tie
 
-forecast-code-requires : tie.Need-forecast-code-requires
-forecast-code-requires c κs = search needs
-
 weight-of-requires : tie.Need-weight-of-requires
 weight-of-requires c κs =
     let s = c .before .before .args in
@@ -25,4 +22,4 @@ unfolding weight
 returns-2 c = rw (← (c .before .forecast-code .ensures), ne-eqb _ 0 (c .if1 .left))
 
 pub weight-spec : {M : Type 1} → statement M
-weight-spec = tie.close (tie.spec forecast-code-requires weight-of-requires returns returns-2)
+weight-spec = tie.close (tie.spec (λ c κs. search needs) weight-of-requires returns returns-2)
