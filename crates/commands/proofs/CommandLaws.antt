@@ -1,9 +1,9 @@
 -- Laws of one command: what it answers, and what a save writes.
 use Prim.Native.Nat.{ℕ, _-_, _≤_}
-use mathlib.Core.Path.{_≡_, sym, _∙_}
+use mathlib.Core.Path.{_≡_, sym, ap, _∙_}
 use mathlib.Core.List.{List}
 use native.Mathlib.Omega.{arith}
-use borrow.Author.Tests.{ne-eqb}
+use borrow.Author.Tests.{leb-true, ne-eqb}
 use lib.Dec.{leb}
 use lib.ListN.{length, drop, length-drop}
 use Rattle.state.specs.Rejections.{unless, short-buffer}
@@ -11,12 +11,13 @@ use Rattle.state.specs.States.{check}
 use Rattle.state.specs.declared.State.{State}
 use Rattle.state.specs.declared.Outcome.the-variants as outcome-of
 use Rattle.state.proofs.Answers.{outcome-accepted}
-use Rattle.state.proofs.Tests.{then-zero}
+use Rattle.state.proofs.Tests.{then-zero, unless-zero}
 use Rattle.state.proofs.Passing.{bounded}
-use Rattle.snapshot.specs.Answers.{lengthValue}
+use Rattle.snapshot.specs.Answers.{lengthCode, lengthValue}
 use Rattle.snapshot.specs.Layout.{sizeOf}
 use Rattle.snapshot.specs.Snapshots.{openCode, openOffset, read, restOf, bytesNeeded, encoded, save, saveCode}
 use Rattle.snapshot.specs.declared.Opened.{Opened}
+use Rattle.snapshot.specs.declared.Length.the-variants as length-of
 use Rattle.snapshot.proofs.AnswerLaws.{lengths}
 use Rattle.snapshot.proofs.OffsetLaws.{offsets}
 use Rattle.snapshot.proofs.RoundTrip.{length-encoded}
@@ -26,28 +27,39 @@ use Rattle.decoding.specs.declared.Command.{Command}
 use Rattle.decoding.specs.declared.Decoded.{Decoded}
 use Rattle.commands.specs.Commands.{accepted, rejected, restOffset, openSnapshot, act, buffered, perform, performBytes}
 use Rattle.commands.specs.declared.Session.{Session}
+use Rattle.commands.specs.declared.Performed.{Performed}
 
 pub snapshot-most : (s : State) → check s ≡ 0 → length (encoded s) ≤ 526
 snapshot-most s e = omega (arith, length-encoded s, bounded s e .period)
 
--- what was saved passes its checks, and the bytes that were told are its snapshot's
-module _ (s : State) (room : ℕ) (e : save s room ≡ outcome-of.Accepted) where
-  passes : check s ≡ 0
-  unfolding save saveCode
-  passes = then-zero (check s) (unless (leb (sizeOf (s .period)) room) short-buffer) (outcome-accepted (saveCode s room) e) .0
+pub told-most : (s : State) (n : ℕ) → bytesNeeded s ≡ length-of.Bytes n → n ≤ 526
+unfolding bytesNeeded
+told-most s n e =
+    let l = lengths (check s) (sizeOf (s .period)) in
+    let z = sym (l .code) ∙ ap lengthCode e in
+    omega (arith, sym (ap lengthValue e) ∙ l .value z, length-encoded s, snapshot-most s z)
 
-  pub count-is : lengthValue (bytesNeeded s) ≡ length (encoded s)
-  unfolding bytesNeeded
-  count-is = lengths (check s) (sizeOf (s .period)) .value passes ∙ sym (length-encoded s)
+-- what is saved passes its checks and has its room, and the bytes that were told are its snapshot's
+pub save-facts : (s : State) (room : ℕ) → saveCode s room ≡ 0 → (check s ≡ 0) × (length (encoded s) ≤ room)
+unfolding saveCode
+save-facts s room z =
+    let fits = leb (sizeOf (s .period)) room in
+    let q = then-zero (check s) (unless fits short-buffer) z in
+    (q .0, rw (length-encoded s) (leb-true (sizeOf (s .period)) room (unless-zero fits 11 (q .1))))
 
-  pub count-most : lengthValue (bytesNeeded s) ≤ 526
-  count-most = rw count-is (snapshot-most s passes)
+pub count-is : (s : State) (room : ℕ) → save s room ≡ outcome-of.Accepted → lengthValue (bytesNeeded s) ≡ length (encoded s)
+unfolding save bytesNeeded
+count-is s room e =
+    lengths (check s) (sizeOf (s .period)) .value (save-facts s room (outcome-accepted (saveCode s room) e) .0) ∙ sym (length-encoded s)
 
 -- ---- what each command answers, by what its call answered
-pub rest-begins : (s : List ℕ) (at : ℕ) → at ≤ length s → length s - length (restOf (drop at s)) ≡ restOffset s at
+pub rest-begins : (s : List ℕ) (at : ℕ) → at ≤ length s → {left : List ℕ} → left ≡ restOf (drop at s)
+    → (length left ≤ length s) × (length s - length left ≡ restOffset s at)
 unfolding restOf
-rest-begins s at h =
-    omega (arith, length-drop (openOffset (drop at s)) (drop at s), length-drop at s, offsets (drop at s) .within)
+rest-begins s at h e =
+    let n = ap length e ∙ length-drop (openOffset (drop at s)) (drop at s) in
+    let k = length-drop at s in
+    (omega arith, omega (arith, offsets (drop at s) .within))
 
 pub opened-rejected : (s : List ℕ) (x : Session) (code : ℕ) → code ≡ openCode (drop (x .at) s) → (code ≡ 0 → ⊥)
     → openSnapshot s x ≡ rejected code (restOffset s (x .at)) x
@@ -65,6 +77,10 @@ module _ (s : List ℕ) (x : Session) (d : Decoded) (k : Command) (q : d ≡ dec
   unfolding perform
   performs room = rw (← q, e)
 
-  pub leaves : (buffer : List ℕ) → performBytes s x buffer ≡ buffered x buffer k
+  leaves : (buffer : List ℕ) → performBytes s x buffer ≡ buffered x buffer k
   unfolding performBytes
   leaves buffer = rw (← q, e)
+
+  pub performed : (buffer : List ℕ) {p : Performed} → p ≡ act s x (length buffer) (d .next) k
+      → (p ≡ perform s x (length buffer)) × (buffered x buffer k ≡ performBytes s x buffer)
+  performed buffer r = (r ∙ sym (performs (length buffer)), sym (leaves buffer))

@@ -6,18 +6,16 @@ use mathlib.Core.Bool.{Bool, true, false, cond, _||_, true≢false, false≢true
 use mathlib.Core.List.{List, [], _∷_, _++_}
 use native.Mathlib.Nat.{zero-add}
 use native.Mathlib.Omega.{arith}
-use borrow.Author.Tests.{eqb-true, leb-true, leb-false, lt-leb}
+use borrow.Author.Tests.{eqb-true, leb-false, lt-leb}
 use lib.Dec.{eqb, leb, eqb·suc-zero}
 use lib.IntN.{ℤ}
 use lib.ListN.{length, length-drop, length-replicate, take, drop, getD, replicate}
 use lib.Seq.{sets, sets-eq, take-at, take-length}
-use Rattle.state.specs.Rejections.{unless, outcome, answer, input-too-long, truncated, short-buffer}
-use Rattle.state.specs.States.{check}
+use Rattle.state.specs.Rejections.{unless, outcome, answer, input-too-long, truncated}
 use Rattle.state.specs.declared.State.{State}
 use Rattle.state.specs.declared.Outcome.{Outcome}
 use Rattle.state.specs.declared.Outcome.the-variants as outcome-of
 use Rattle.integers.proofs.Tests.{cond-elim}
-use Rattle.state.proofs.Tests.{then-zero, unless-zero}
 use Rattle.ets.specs.Steps.{step, stepCode, residualOf, missing, missingCode}
 use Rattle.forecasts.specs.Forecasts.{forecastTo, forecastCode, forecastOf}
 use Rattle.ets.proofs.Kept.{cells-kept, reading-kept, missing-kept}
@@ -25,11 +23,10 @@ use Rattle.weights.specs.Weights.{variance}
 use Rattle.weights.specs.declared.Variance.{Variance}
 use Rattle.weights.specs.declared.Variance.the-variants as variance-of
 use Rattle.snapshot.specs.CommandTable.{commandSize}
-use Rattle.snapshot.specs.Layout.{sizeOf}
 use Rattle.snapshot.specs.Snapshots.{openCode, openOffset, decoded, read, encoded, save, saveCode, savedBytes}
 use Rattle.snapshot.proofs.Accepting.{accepted-size}
 use Rattle.snapshot.proofs.OffsetLaws.{offsets}
-use Rattle.snapshot.proofs.RoundTrip.{accepted-passes, length-decoded, length-encoded}
+use Rattle.snapshot.proofs.RoundTrip.{accepted-passes, length-decoded}
 use Rattle.decoding.specs.Decoding.{commandCode, operands, decode}
 use Rattle.decoding.specs.declared.Decoded.{Decoded}
 use Rattle.decoding.specs.declared.Command.{Command}
@@ -45,7 +42,7 @@ use Rattle.commands.specs.Stream.{inputLimit, snapshotRoom, lineRoom, ad
 use Rattle.commands.specs.Promises.{Passes, Sound, Sessions, EndsOnce, Answers, Openings, Offsets}
 use Rattle.commands.specs.declared.Session.{Session}
 use Rattle.commands.specs.declared.Performed.{Performed}
-use Rattle.commands.proofs.CommandLaws.{snapshot-most, performs, opened-rejected}
+use Rattle.commands.proofs.CommandLaws.{snapshot-most, save-facts, performs, opened-rejected}
 
 module _ (P : Performed → Type 0) where
   on-outcome : (code : ℕ) (a : Performed) (r : ℕ → Performed) → (code ≡ 0 → P a) → ((n : ℕ) → P (r n)) → P (byOutcome (outcome code) a r)
@@ -78,20 +75,10 @@ missing-passes t p z = rw z (record { checked = missing-kept t z; cells = p .cel
 front : (d xs : List ℕ) → length xs ≤ length d → take (length xs) (sets d 0 xs) ≡ take (length xs) xs
 front d xs h = rw (sets-eq xs d 0 (rw (zero-add (length xs)) h)) (take-at xs _ (length xs) refl ∙ sym (take-length xs))
 
-save-room : (t : State) (room : ℕ) → saveCode t room ≡ 0 → length (encoded t) ≤ room
-unfolding saveCode
-save-room t room z =
-    let q = then-zero (check t) (unless (leb (sizeOf (t .period)) room) short-buffer) z .1 in
-    rw (length-encoded t) (leb-true (sizeOf (t .period)) room (unless-zero (leb (sizeOf (t .period)) room) 11 q))
-
 saved-line : (t : State) (d : List ℕ) → saveCode t (length d) ≡ 0
     → lineOf (reply-of.Saved (length (encoded t))) (savedBytes t d) ≡ lineOf (reply-of.Saved (length (encoded t))) (encoded t)
 unfolding lineOf fieldsBytes savedBytes
-saved-line t d z = rw (z, front d (encoded t) (save-room t (length d) z))
-
-save-check : (t : State) (room : ℕ) → saveCode t room ≡ 0 → check t ≡ 0
-unfolding saveCode
-save-check t room z = then-zero (check t) (unless (leb (sizeOf (t .period)) room) short-buffer) z .0
+saved-line t d z = rw (z, front d (encoded t) (save-facts t (length d) z .1))
 
 -- ---- a command that is not the last answer moves on and stays within the bytes, what is open stays sound, and its line is that of the state that stands
 pub record Goes (s : List ℕ) (x : Session) (buffer : List ℕ) (p : Performed) : Type 0 where
@@ -147,7 +134,7 @@ save-goes : (s : List ℕ) (x : Session) (d : List ℕ) (to : ℕ) → x .at < t
 unfolding saveState save
 save-goes s x d to h k same =
     on-outcome (Goes s x (savedBytes (x .state) d)) (saveCode (x .state) (length d)) _ _
-    (λ z. goes s x (savedBytes (x .state) d) _ to _ h k same (snapshot-most (x .state) (save-check (x .state) (length d) z)) (saved-line (x .state) d z))
+    (λ z. goes s x (savedBytes (x .state) d) _ to _ h k same (snapshot-most (x .state) (save-facts (x .state) (length d) z .0)) (saved-line (x .state) d z))
     (λ n. stays s x (savedBytes (x .state) d) n _)
 
 -- ---- a command that was decoded finds an open state unless it opens one

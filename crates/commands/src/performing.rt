@@ -19,7 +19,7 @@ ghost use mathlib.Core.Path.{_≡_};
 ghost use Prim.Native.Nat.{_≤_};
 ghost use lib.ListN.{length};
 ghost use Rattle.snapshot.specs.Answers.{lengthValue};
-ghost use Rattle.snapshot.specs.Snapshots.{savedBytes};
+ghost use Rattle.snapshot.specs.Snapshots.{bytesNeeded, savedBytes};
 ghost use Rattle.commands.specs.Commands.{accepted, rejected, finish, openSnapshot, takeReading, takeMissing, giveForecast, giveVariance, saveState};
 
 pub fn reject(code: u8, offset: usize, x: Session) -> Performed
@@ -48,8 +48,7 @@ fn accept(reply: Reply, next: usize, state: State) -> Performed
 pub fn finish(x: Session) -> Performed
     ensures { λ r. ⌜ r ≡ finish x ⌝ }
 {
-    let s = x.state;
-    let count = if x.active { s.count } else { 0 };
+    let count = if x.active { x.state.count } else { 0 };
     Performed {
         reply: Reply::Ended(count),
         session: x,
@@ -61,33 +60,31 @@ pub fn open_snapshot(s: &[u8], x: Session) -> Performed
     ensures { λ r. ⌜ r ≡ openSnapshot (now (s .entry)) x ⌝ }
 {
     let at = x.at;
+    let group = &s[at..];
     let mut code = 0u8;
-    let left = rest(&s[at..], &mut code);
+    let left = rest(group, &mut code);
     let next = s.len() - left.len();
     if code != 0 {
         return reject(code, next, x);
     }
-    let found = read(&s[at..]);
-    let state = found.state;
+    let found = read(group);
     accept(
         Reply::Opened {
-            model: state.model,
-            period: state.period,
+            model: found.state.model,
+            period: found.state.period,
         },
         next,
-        state,
+        found.state,
     )
 }
 
 pub fn take_reading(x: Session, next: usize, y: i32) -> Performed
     ensures { λ r. ⌜ r ≡ takeReading x next y ⌝ }
 {
-    let state = x.state;
-    let found = step(state, y);
+    let found = step(x.state, y);
     let residual = found.residual;
-    let after = found.state;
     match residual {
-        Answer::Accepted(e) => accept(Reply::Residual(e), next, after),
+        Answer::Accepted(e) => accept(Reply::Residual(e), next, found.state),
         Answer::Rejected(code) => reject(code, x.at, x),
     }
 }
@@ -95,12 +92,10 @@ pub fn take_reading(x: Session, next: usize, y: i32) -> Performed
 pub fn take_missing(x: Session, next: usize) -> Performed
     ensures { λ r. ⌜ r ≡ takeMissing x next ⌝ }
 {
-    let state = x.state;
-    let found = missing(state);
+    let found = missing(x.state);
     let outcome = found.outcome;
-    let after = found.state;
     match outcome {
-        Outcome::Accepted => accept(Reply::Missing, next, after),
+        Outcome::Accepted => accept(Reply::Missing, next, found.state),
         Outcome::Rejected(code) => reject(code, x.at, x),
     }
 }
@@ -108,10 +103,9 @@ pub fn take_missing(x: Session, next: usize) -> Performed
 pub fn give_forecast(x: Session, next: usize, horizon: u32) -> Performed
     ensures { λ r. ⌜ r ≡ giveForecast x next horizon ⌝ }
 {
-    let state = x.state;
-    let found = forecast(state, horizon);
+    let found = forecast(x.state, horizon);
     match found {
-        Answer::Accepted(value) => accept(Reply::Forecast { horizon, value }, next, state),
+        Answer::Accepted(value) => accept(Reply::Forecast { horizon, value }, next, x.state),
         Answer::Rejected(code) => reject(code, x.at, x),
     }
 }
@@ -119,23 +113,22 @@ pub fn give_forecast(x: Session, next: usize, horizon: u32) -> Performed
 pub fn give_variance(x: Session, next: usize, horizon: u32, sigma2: u32) -> Performed
     ensures { λ r. ⌜ r ≡ giveVariance x next horizon sigma2 ⌝ }
 {
-    let state = x.state;
-    let found = variance(state, horizon, sigma2);
+    let found = variance(x.state, horizon, sigma2);
     match found {
         Variance::Accepted { high, low } => accept(
             Reply::Variance { horizon, high, low },
             next,
-            state,
+            x.state,
         ),
         Variance::Rejected(code) => reject(code, x.at, x),
     }
 }
 
-// The bytes that were told, as a reply carries them.
-fn count_of(told: Length) -> u32
-    requires { ⌜ lengthValue told ≤ 526 ⌝ }
-    ensures { λ r. ⌜ r ≡ lengthValue told ⌝ }
+// The bytes of a state's snapshot, as a reply carries them; 0 where the state does not pass.
+fn saved_count(s: State) -> u32
+    ensures { λ r. ⌜ r ≡ lengthValue (bytesNeeded s) ⌝ }
 {
+    let told = bytes_needed(s);
     match told {
         Length::Bytes(n) => n as u32,
         Length::Rejected(_) => 0,
@@ -146,10 +139,9 @@ pub fn save_state(x: Session, next: usize, buffer: &mut [u8]) -> Performed
     ensures answer { λ r. ⌜ r ≡ saveState x next (length (now (buffer .entry))) ⌝ }
     ensures bytes { λ _. ⌜ now (buffer .exit) ≡ savedBytes (x .state) (now (buffer .entry)) ⌝ }
 {
-    let state = x.state;
-    let outcome = save(state, buffer);
+    let outcome = save(x.state, buffer);
     match outcome {
-        Outcome::Accepted => accept(Reply::Saved(count_of(bytes_needed(state))), next, state),
+        Outcome::Accepted => accept(Reply::Saved(saved_count(x.state)), next, x.state),
         Outcome::Rejected(code) => reject(code, x.at, x),
     }
 }

@@ -4,12 +4,9 @@ use Rattle.commands.specs.Commands.{start}
 use Rattle.commands.proofs.start.Statement.{statement}
 use Rattle.commands.proofs.start.Tie as tie
 
-no-state-requires : tie.Need-no-state-requires
-no-state-requires c κs = search needs
-
 returns : tie.Need-returns
 unfolding start
 returns c = rw (c .no-state .ensures)
 
 pub start-spec : {M : Type 1} → statement M
-start-spec = tie.close (tie.spec no-state-requires returns)
+start-spec = tie.close (tie.spec (λ c κs. search needs) returns)

@@ -12,21 +12,6 @@ use Rattle.commands.proofs.write_next.Tie as tie
 abbrev written : Performed → Line → Written
 written p l = record { performed = p; line = l }
 
-slice-aggregate-perform : tie.Need-slice-aggregate-perform
-slice-aggregate-perform c = search needs
-
-perform-requires : tie.Need-perform-requires
-perform-requires c κs = search needs
-
-slice-aggregate-write-line : tie.Need-slice-aggregate-write-line
-slice-aggregate-write-line c = search needs
-
-write-line-requires : tie.Need-write-line-requires
-write-line-requires c κs = search needs
-
-same-length : tie.Need-same-length
-same-length c = search needs
-
 returns : tie.Need-returns
 returns c =
     let a = c .before .before .before .before .before .before .before .before .before .before .args in
@@ -42,9 +27,9 @@ pub write-next-spec : {M : Type 1} → statement M
 write-next-spec =
     tie.close
     (tie.spec
-    slice-aggregate-perform
-    perform-requires
-    slice-aggregate-write-line
-    write-line-requires
-    same-length
+    (λ c. search needs)
+    (λ c κs. search needs)
+    (λ c. search needs)
+    (λ c κs. search needs)
+    (λ c. search needs)
     returns)

@@ -6,21 +6,6 @@ use mir.Syntax.{w64}
 use Rattle.commands.proofs.performing.give_forecast.Statement.{statement}
 use Rattle.commands.proofs.performing.give_forecast.Tie as tie
 
-forecast-requires : tie.Need-forecast-requires
-forecast-requires c κs = search needs
-
-enum-known-found : tie.Need-enum-known-found
-enum-known-found c = search needs
-
-accept-requires : tie.Need-accept-requires
-accept-requires c κs = search needs
-
-enum-known-found-2 : tie.Need-enum-known-found-2
-enum-known-found-2 c = search needs
-
-reject-requires : tie.Need-reject-requires
-reject-requires c κs = search needs
-
 returns : tie.Need-returns
 unfolding giveForecast
 returns c =
@@ -35,10 +20,10 @@ pub give-forecast-spec : {M : Type 1} → statement M
 give-forecast-spec =
     tie.close
     (tie.spec
-    forecast-requires
-    enum-known-found
-    accept-requires
-    enum-known-found-2
-    reject-requires
+    (λ c κs. search needs)
+    (λ c. search needs)
+    (λ c κs. search needs)
+    (λ c. search needs)
+    (λ c κs. search needs)
     returns
     returns-2)

@@ -4,21 +4,6 @@ use Rattle.commands.specs.Commands.{giveVariance}
 use Rattle.commands.proofs.performing.give_variance.Statement.{statement}
 use Rattle.commands.proofs.performing.give_variance.Tie as tie
 
-variance-requires : tie.Need-variance-requires
-variance-requires c κs = search needs
-
-enum-known-found : tie.Need-enum-known-found
-enum-known-found c = search needs
-
-accept-requires : tie.Need-accept-requires
-accept-requires c κs = search needs
-
-enum-known-found-2 : tie.Need-enum-known-found-2
-enum-known-found-2 c = search needs
-
-reject-requires : tie.Need-reject-requires
-reject-requires c κs = search needs
-
 returns : tie.Need-returns
 unfolding giveVariance
 returns c = rw (← (c .before .before .before .before .variance .ensures), c .before .before .found .given .1) (c .accept .ensures)
@@ -31,10 +16,10 @@ pub give-variance-spec : {M : Type 1} → statement M
 give-variance-spec =
     tie.close
     (tie.spec
-    variance-requires
-    enum-known-found
-    accept-requires
-    enum-known-found-2
-    reject-requires
+    (λ c κs. search needs)
+    (λ c. search needs)
+    (λ c κs. search needs)
+    (λ c. search needs)
+    (λ c κs. search needs)
     returns
     returns-2)

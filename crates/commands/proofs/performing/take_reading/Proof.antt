@@ -1,49 +1,34 @@
 -- `commands::performing::take_reading` meets its contract.
 use borrow.Author.Needs.{needs}
 use Rattle.commands.specs.Commands.{takeReading}
+use Rattle.ets.specs.Steps.{step}
+use mathlib.Core.Path.{_≡_}
 use mir.ValLaws.{toZ-ofZ}
 use mir.Syntax.{w32, w64}
 use Rattle.commands.proofs.performing.take_reading.Statement.{statement}
 use Rattle.commands.proofs.performing.take_reading.Tie as tie
 
-step-requires : tie.Need-step-requires
-step-requires c κs = search needs
-
-enum-known-residual : tie.Need-enum-known-residual
-enum-known-residual c = search needs
-
-accept-requires : tie.Need-accept-requires
-accept-requires c κs = search needs
-
-enum-known-residual-2 : tie.Need-enum-known-residual-2
-enum-known-residual-2 c = search needs
-
-reject-requires : tie.Need-reject-requires
-reject-requires c κs = search needs
+stepped : (r : tie.After-step) → r .step .result ≡ step (r .before .args .x .state) (r .before .args .y)
+stepped r = rw (toZ-ofZ w32 (r .before .args .y) (r .before .fits .y)) at (r .step .ensures)
 
 returns : tie.Need-returns
 unfolding takeReading
 returns c =
-    let s = c .before .before .before .before .before .before .before in
-    let t = rw (toZ-ofZ w32 (s .args .y) (s .fits .y)) at (c .before .before .before .before .before .step .ensures) in
     let e = c .before .before .residual .given in
-    rw (← t, e .1) (rw (toZ-ofZ w64 (e .0 .0) (search needs)) at (c .accept .ensures))
+    rw (← (stepped (c .before .before .before .before)), e .1) (rw (toZ-ofZ w64 (e .0 .0) (search needs)) at (c .accept .ensures))
 
 returns-2 : tie.Need-returns-2
 unfolding takeReading
-returns-2 c =
-    let s = c .before .before .before .before .before .before .before in
-    let t = rw (toZ-ofZ w32 (s .args .y) (s .fits .y)) at (c .before .before .before .before .before .step .ensures) in
-    rw (← t, c .before .before .residual2 .given .1) (c .reject .ensures)
+returns-2 c = rw (← (stepped (c .before .before .before .before)), c .before .before .residual2 .given .1) (c .reject .ensures)
 
 pub take-reading-spec : {M : Type 1} → statement M
 take-reading-spec =
     tie.close
     (tie.spec
-    step-requires
-    enum-known-residual
-    accept-requires
-    enum-known-residual-2
-    reject-requires
+    (λ c κs. search needs)
+    (λ c. search needs)
+    (λ c κs. search needs)
+    (λ c. search needs)
+    (λ c κs. search needs)
     returns
     returns-2)

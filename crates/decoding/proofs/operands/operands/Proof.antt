@@ -11,21 +11,13 @@ use mathlib.Core.Path.{ap, _∙_}
 use Rattle.decoding.proofs.operands.operands.Statement.{statement}
 use Rattle.decoding.proofs.operands.operands.Tie as tie
 
-shared-slice-read-b : tie.Need-shared-slice-read-b
-shared-slice-read-b c = search needs
-
 returns : tie.Need-returns
 unfolding operands
 returns c = rw (c .if1 .taken)
 
-add-read-i32 : tie.Need-add-read-i32
-add-read-i32 c = search needs
-
 read-i32-requires : tie.Need-read-i32-requires
 unfolding commandSize
-read-i32-requires c κs =
-    let h = rw (c .if2 .taken) at (c .before .before .before .before .pre .1) in
-    omega arith
+read-i32-requires c κs = omega (arith, rw (c .if2 .taken) at (c .before .before .before .before .pre .1))
 
 returns-2 : tie.Need-returns-2
 unfolding operands
@@ -35,36 +27,21 @@ returns-3 : tie.Need-returns-3
 unfolding operands
 returns-3 c = rw (c .if3 .taken)
 
-add-read-u16 : tie.Need-add-read-u16
-add-read-u16 c = search needs
-
 read-u16-requires : tie.Need-read-u16-requires
 unfolding commandSize
-read-u16-requires c κs =
-    let h = rw (c .if4 .taken) at (c .before .before .before .before .before .before .pre .1) in
-    omega arith
+read-u16-requires c κs = omega (arith, rw (c .if4 .taken) at (c .before .before .before .before .before .before .pre .1))
 
 returns-4 : tie.Need-returns-4
 unfolding operands
 returns-4 c = rw (c .before .if4 .taken) (ap command-of.Forecast (c .read-u16 .ensures .0))
 
-add-read-u16-2 : tie.Need-add-read-u16-2
-add-read-u16-2 c = search needs
-
 read-u16-requires-2 : tie.Need-read-u16-requires-2
 unfolding commandSize
-read-u16-requires-2 c κs =
-    let h = rw (c .if5 .taken) at (c .before .before .before .before .before .before .before .pre .1) in
-    omega arith
-
-add-read-u32 : tie.Need-add-read-u32
-add-read-u32 c = search needs
+read-u16-requires-2 c κs = omega (arith, rw (c .if5 .taken) at (c .before .before .before .before .before .before .before .pre .1))
 
 read-u32-requires : tie.Need-read-u32-requires
 unfolding commandSize
-read-u32-requires c κs =
-    let h = rw (c .before .if5 .taken) at (c .before .before .before .before .before .before .before .before .pre .1) in
-    omega arith
+read-u32-requires c κs = omega (arith, rw (c .before .if5 .taken) at (c .before .before .before .before .before .before .before .before .pre .1))
 
 returns-5 : tie.Need-returns-5
 unfolding operands
@@ -81,18 +58,18 @@ pub operands-spec : {M : Type 1} → statement M
 operands-spec =
     tie.close
     (tie.spec
-    shared-slice-read-b
+    (λ c. search needs)
     returns
-    add-read-i32
+    (λ c. search needs)
     read-i32-requires
     returns-2
     returns-3
-    add-read-u16
+    (λ c. search needs)
     read-u16-requires
     returns-4
-    add-read-u16-2
+    (λ c. search needs)
     read-u16-requires-2
-    add-read-u32
+    (λ c. search needs)
     read-u32-requires
     returns-5
     returns-6)

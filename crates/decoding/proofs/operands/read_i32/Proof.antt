@@ -8,18 +8,6 @@ use Rattle.snapshot.proofs.Signed.{down, down-fits}
 use Rattle.decoding.proofs.operands.read_i32.Statement.{statement}
 use Rattle.decoding.proofs.operands.read_i32.Tie as tie
 
-read-u32-requires : tie.Need-read-u32-requires
-read-u32-requires c κs = search needs
-
-cast-result : tie.Need-cast-result
-cast-result c = search needs
-
-sub-result : tie.Need-sub-result
-sub-result c = search needs
-
-cast-result-2 : tie.Need-cast-result-2
-cast-result-2 c = search needs
-
 sub-result-2 : tie.Need-sub-result-2
 sub-result-2 c = down-fits w32 _ (c .if1 .left) (search needs)
 
@@ -33,10 +21,10 @@ pub read-i32-spec : {M : Type 1} → statement M
 read-i32-spec =
     tie.close
     (tie.spec
-    read-u32-requires
-    cast-result
-    sub-result
-    cast-result-2
+    (λ c κs. search needs)
+    (λ c. search needs)
+    (λ c. search needs)
+    (λ c. search needs)
     sub-result-2
     returns
     returns-2)
