@@ -19,12 +19,14 @@ use Rattle.snapshot.specs.Answers.{lengthAnswer, lengthValue}
 use Rattle.snapshot.specs.Bytes.{fromBytes, unsignedAt}
 use Rattle.snapshot.specs.CommandTable.{commandSize, isCommand, onlyInSnapshot, commandLength}
 use Rattle.snapshot.specs.Layout.{sizeOf}
-use Rattle.snapshot.specs.Snapshots.{openCode, openOffset, read, restOf, bytesNeeded, encoded, save, saveCode}
-use Rattle.snapshot.specs.declared.Opened.{Opened}
+use Rattle.snapshot.specs.Snapshots.{openCode, openOffset, read, restOf}
 use Rattle.snapshot.specs.declared.Length.the-variants as length-of
+use Rattle.snapshot.specs.declared.Opened.{Opened}
 use Rattle.snapshot.proofs.AnswerLaws.{lengths}
 use Rattle.snapshot.proofs.OffsetLaws.{offsets}
-use Rattle.snapshot.proofs.RoundTrip.{length-encoded}
+use Rattle.saving.specs.Encoding.{encoded}
+use Rattle.saving.specs.Saving.{bytesNeeded, save, saveCode}
+use Rattle.saving.proofs.RoundTrip.{length-encoded}
 use Rattle.lines.specs.declared.Reply.the-variants as reply-of
 use Rattle.commands.specs.Commands.{commandCode, operands, decoded, decode, accepted, rejected, restOffset, openSnapshot, act, buffered, perform, performBytes}
 use Rattle.commands.specs.declared.Session.{Session}

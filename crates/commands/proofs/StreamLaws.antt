@@ -25,10 +25,13 @@ use Rattle.weights.specs.declared.Variance.{Variance}
 use Rattle.weights.specs.declared.Variance.the-variants as variance-of
 use Rattle.snapshot.specs.CommandTable.{commandSize, isCommand, onlyInSnapshot}
 use Rattle.snapshot.specs.Layout.{sizeOf}
-use Rattle.snapshot.specs.Snapshots.{openCode, openOffset, decoded, read, encoded, save, saveCode, savedBytes}
+use Rattle.snapshot.specs.Snapshots.{openCode, openOffset, decoded, read}
 use Rattle.snapshot.proofs.Accepting.{accepted-size}
+use Rattle.snapshot.proofs.Decoded.{accepted-passes, length-decoded}
 use Rattle.snapshot.proofs.OffsetLaws.{offsets}
-use Rattle.snapshot.proofs.RoundTrip.{accepted-passes, length-decoded, length-encoded}
+use Rattle.saving.specs.Encoding.{encoded}
+use Rattle.saving.specs.Saving.{save, saveCode, savedBytes}
+use Rattle.saving.proofs.RoundTrip.{length-encoded}
 use Rattle.lines.specs.Lines.{fieldsBytes, lineOf, writeLine, lineBytes}
 use Rattle.lines.specs.declared.Reply.{Reply}
 use Rattle.lines.specs.declared.Reply.the-variants as reply-of

@@ -21,7 +21,9 @@ use Rattle.weights.specs.declared.Variance.{Variance}
 use Rattle.weights.specs.declared.Variance.the-variants as variance-of
 use Rattle.snapshot.specs.Bytes.{unsignedAt}
 use Rattle.snapshot.specs.CommandTable.{commandSize, isCommand, onlyInSnapshot}
-use Rattle.snapshot.specs.Snapshots.{openCode, openOffset, read, encoded, save, savedBytes}
+use Rattle.snapshot.specs.Snapshots.{openCode, openOffset, read}
+use Rattle.saving.specs.Encoding.{encoded}
+use Rattle.saving.specs.Saving.{save, savedBytes}
 use Rattle.lines.specs.declared.Reply.{Reply}
 use Rattle.lines.specs.declared.Reply.the-variants as reply-of
 use Rattle.commands.specs.declared.Session.{Session}

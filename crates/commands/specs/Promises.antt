@@ -7,7 +7,8 @@ use lib.ListN.{length, drop}
 use Rattle.state.specs.Rejections.{input-too-long, truncated}
 use Rattle.state.specs.States.{check}
 use Rattle.state.specs.declared.State.{State}
-use Rattle.snapshot.specs.Snapshots.{openCode, openOffset, decoded, encoded}
+use Rattle.snapshot.specs.Snapshots.{openCode, openOffset, decoded}
+use Rattle.saving.specs.Encoding.{encoded}
 use Rattle.lines.specs.Lines.{writeLine}
 use Rattle.lines.specs.declared.Reply.the-variants as reply-of
 use Rattle.lines.specs.declared.Line.the-variants as line-of
