@@ -6,7 +6,7 @@ use Rattle.state.specs.Rejections.{_then_, accepting, outcomeCode}
 use Rattle.ets.specs.Batches.{batch, batchLevels}
 use Rattle.forecasts.specs.Forecasts.{forecastsCode, forecastCells}
 use Rattle.snapshot.specs.Snapshots.{decoded}
-use Rattle.snapshot.specs.InPlace.{inPlaceCode}
+use Rattle.snapshot.specs.Slices.{inPlaceCode}
 use Rattle.weights.specs.Weights.{weight, weightCode, weightValue}
 
 -- a batch: the number returned, the readings taken, and the cells; the snapshot is read and not rewritten

@@ -2,7 +2,7 @@
 // Each returns the rejection's number or 0, as the station's calls do; a rejected call leaves the cells and the lent weight as found.
 use ets::batches::batch;
 use forecasts::forecasts;
-use snapshot::in_place::read;
+use snapshot::slices::read;
 use state::code_of;
 use weights::Weight;
 use weights::variances::weight;

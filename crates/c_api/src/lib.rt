@@ -1,9 +1,9 @@
 // The station's C calls on a lent slice that holds one snapshot: document 01, "Commands".
-use snapshot::in_place::forecast;
-use snapshot::in_place::missing;
-use snapshot::in_place::step;
+use saving::in_place::forecast;
+use saving::in_place::missing;
+use saving::in_place::step;
 ghost use mathlib.Core.Path.{_≡_};
-ghost use Rattle.snapshot.specs.InPlace.{inPlaceStepCode, inPlaceStepBytes, inPlaceResidual, inPlaceMissingCode, inPlaceMissingBytes, inPlaceForecastCode, inPlaceForecast};
+ghost use Rattle.saving.specs.InPlace.{inPlaceStepCode, inPlaceStepBytes, inPlaceResidual, inPlaceMissingCode, inPlaceMissingBytes, inPlaceForecastCode, inPlaceForecast};
 
 #[no_mangle]
 pub extern "C" fn forecaster_step(snapshot: &mut [u8], reading: i32, residual: &mut i64) -> u8

@@ -104,8 +104,8 @@ fn play_cells(operation: u8, s: State) {
 fn play_save(s: State) {
     let mut cells = [77u8; 1024];
     let bytes = first_bytes(&mut cells, next_size());
-    print_outcome(snapshot::save(s, bytes));
-    print_length(snapshot::bytes_needed(s));
+    print_outcome(saving::save(s, bytes));
+    print_length(saving::bytes_needed(s));
     print_bytes(bytes);
 }
 

@@ -9,7 +9,8 @@ use Rattle.state.specs.declared.State.{State}
 use Rattle.ets.specs.Steps.{step}
 use Rattle.forecasts.specs.Forecasts.{forecast}
 use Rattle.snapshot.specs.Snapshots.{decoded}
-use Rattle.snapshot.specs.InPlace.{inPlaceCode, inPlaceStepBytes, inPlaceForecastCode, inPlaceForecast}
+use Rattle.snapshot.specs.Slices.{inPlaceCode}
+use Rattle.saving.specs.InPlace.{inPlaceStepBytes, inPlaceForecastCode, inPlaceForecast}
 use Rattle.traces.specs.Calls.{followed, Reading, Forecast, InPlaceReading, InPlaceForecast, result}
 use Rattle.traces.proofs.Lists.{slice-laws}
 use Rattle.drift.specs.Limits.{Claim}

@@ -15,12 +15,14 @@ use Rattle.state.proofs.Tests.{then-zero, unless-zero}
 use Rattle.state.proofs.Passing.{bounded}
 use Rattle.snapshot.specs.Answers.{lengthCode, lengthValue}
 use Rattle.snapshot.specs.Layout.{sizeOf}
-use Rattle.snapshot.specs.Snapshots.{openCode, openOffset, read, restOf, bytesNeeded, encoded, save, saveCode}
-use Rattle.snapshot.specs.declared.Opened.{Opened}
+use Rattle.snapshot.specs.Snapshots.{openCode, openOffset, read, restOf}
 use Rattle.snapshot.specs.declared.Length.the-variants as length-of
+use Rattle.snapshot.specs.declared.Opened.{Opened}
 use Rattle.snapshot.proofs.AnswerLaws.{lengths}
 use Rattle.snapshot.proofs.OffsetLaws.{offsets}
-use Rattle.snapshot.proofs.RoundTrip.{length-encoded}
+use Rattle.saving.specs.Encoding.{encoded}
+use Rattle.saving.specs.Saving.{bytesNeeded, save, saveCode}
+use Rattle.saving.proofs.RoundTrip.{length-encoded}
 use Rattle.replies.specs.declared.Reply.the-variants as reply-of
 use Rattle.decoding.specs.Decoding.{decode}
 use Rattle.decoding.specs.declared.Command.{Command}

@@ -23,10 +23,12 @@ use Rattle.weights.specs.Weights.{variance}
 use Rattle.weights.specs.declared.Variance.{Variance}
 use Rattle.weights.specs.declared.Variance.the-variants as variance-of
 use Rattle.snapshot.specs.CommandTable.{commandSize}
-use Rattle.snapshot.specs.Snapshots.{openCode, openOffset, decoded, read, encoded, save, saveCode, savedBytes}
+use Rattle.snapshot.specs.Snapshots.{openCode, openOffset, decoded, read}
+use Rattle.saving.specs.Encoding.{encoded}
+use Rattle.saving.specs.Saving.{save, saveCode, savedBytes}
 use Rattle.snapshot.proofs.Accepting.{accepted-size}
+use Rattle.snapshot.proofs.Decoded.{accepted-passes, length-decoded}
 use Rattle.snapshot.proofs.OffsetLaws.{offsets}
-use Rattle.snapshot.proofs.RoundTrip.{accepted-passes, length-decoded}
 use Rattle.decoding.specs.Decoding.{commandCode, operands, decode}
 use Rattle.decoding.specs.declared.Decoded.{Decoded}
 use Rattle.decoding.specs.declared.Command.{Command}

@@ -16,7 +16,9 @@ use Rattle.forecasts.specs.Forecasts.{forecast}
 use Rattle.weights.specs.Weights.{variance}
 use Rattle.weights.specs.declared.Variance.{Variance}
 use Rattle.weights.specs.declared.Variance.the-variants as variance-of
-use Rattle.snapshot.specs.Snapshots.{openCode, openOffset, read, encoded, save, savedBytes}
+use Rattle.snapshot.specs.Snapshots.{openCode, openOffset, read}
+use Rattle.saving.specs.Encoding.{encoded}
+use Rattle.saving.specs.Saving.{save, savedBytes}
 use Rattle.decoding.specs.Decoding.{decode}
 use Rattle.decoding.specs.declared.Command.{Command}
 use Rattle.decoding.specs.declared.Command.the-variants as command-of

@@ -7,7 +7,8 @@ use lib.ListN.{length, drop}
 use Rattle.state.specs.Rejections.{input-too-long, truncated}
 use Rattle.state.specs.States.{check}
 use Rattle.state.specs.declared.State.{State}
-use Rattle.snapshot.specs.Snapshots.{openCode, openOffset, decoded, encoded}
+use Rattle.snapshot.specs.Snapshots.{openCode, openOffset, decoded}
+use Rattle.saving.specs.Encoding.{encoded}
 use Rattle.decoding.specs.Decoding.{decode}
 use Rattle.decoding.specs.declared.Command.the-variants as command-of
 use Rattle.lines.specs.Lines.{writeLine}

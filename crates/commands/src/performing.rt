@@ -5,11 +5,11 @@ use ets::steps::missing;
 use ets::steps::step;
 use forecasts::forecast;
 use replies::Reply;
+use saving::bytes_needed;
+use saving::save;
 use snapshot::Length;
-use snapshot::bytes_needed;
 use snapshot::read;
 use snapshot::rest;
-use snapshot::save;
 use state::Answer;
 use state::Outcome;
 use state::State;
@@ -19,7 +19,7 @@ ghost use mathlib.Core.Path.{_≡_};
 ghost use Prim.Native.Nat.{_≤_};
 ghost use lib.ListN.{length};
 ghost use Rattle.snapshot.specs.Answers.{lengthValue};
-ghost use Rattle.snapshot.specs.Snapshots.{bytesNeeded, savedBytes};
+ghost use Rattle.saving.specs.Saving.{bytesNeeded, savedBytes};
 ghost use Rattle.commands.specs.Commands.{accepted, rejected, finish, openSnapshot, takeReading, takeMissing, giveForecast, giveVariance, saveState};
 
 pub fn reject(code: u8, offset: usize, x: Session) -> Performed

@@ -12,7 +12,7 @@ use Rattle.state.specs.States.{stateOf}
 use Rattle.state.specs.declared.State.{State}
 use Rattle.ets.specs.Steps.{afterReading}
 use Rattle.forecasts.specs.Forecasts.{forecastOf}
-use Rattle.snapshot.specs.InPlace.{inPlaceCode}
+use Rattle.snapshot.specs.Slices.{inPlaceCode}
 use Rattle.traces.specs.Calls.{followed, cut, sliceOf, Call, Reading, Missing, Batch, Forecast, Forecasts, InPlaceReading, InPlaceMissing, InPlaceForecast, result, after}
 use Rattle.drift.specs.Exact.{Parameters, parametersOf, Exact, opened, exactReading, exactForecast, exactAfter, Expected, level-is, forecast-is, expected}
 use Rattle.drift.specs.Limits.{distance, SeasonalBound, WithinLimit, Claim, Opening}

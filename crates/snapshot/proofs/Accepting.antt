@@ -18,6 +18,7 @@ use Rattle.state.proofs.Tests.{unless-zero, then-zero}
 use Rattle.snapshot.specs.CommandTable.{commandSize, isCommand, modelLength, levelLength, seasonLength, positionLength}
 use Rattle.snapshot.specs.Layout.{modelAt, levelAt, seasonAt, positionAt, sizeOf, modelIn, periodIn, alphaIn, betaIn, gammaIn, phiIn, levelIn, trendIn, seasonIndexIn, seasonIn, indexIn, countIn}
 use Rattle.snapshot.specs.Snapshots.{dueCode, modelCode, levelCode, seasonCode, positionCode, finished, scanPosition, scanSeasons, scan, openCode, openOffset}
+use Rattle.snapshot.specs.Slices.{inPlaceCode}
 use Rattle.snapshot.specs.Facts.{Room}
 use Rattle.snapshot.specs.declared.reading.Scanned.{Scanned}
 
@@ -175,3 +176,10 @@ accepted-room s h =
       period = period-most (a .model);
       index = index-most (periodIn s) (indexIn s (periodIn s)) (both (indexOk (periodIn s) (indexIn s (periodIn s))) (countOk (countIn s (periodIn s))) (a .position .ok) .0);
     }
+
+-- ---- the slice holds one snapshot and nothing after it
+pub one-snapshot : (d : List ℕ) → inPlaceCode d ≡ 0 → (openCode d ≡ 0) × (openOffset d ≡ length d)
+unfolding inPlaceCode
+one-snapshot d h =
+    let c = then-zero (openCode d) (unless (eqb (openOffset d) (length d)) out-of-place) h in
+    (c .0, eqb-true (openOffset d) (length d) (unless-zero (eqb (openOffset d) (length d)) 2 (c .1)))

@@ -1,10 +1,6 @@
 pub mod Accepting
 pub mod AnswerLaws
 pub mod ByteLaws
-pub mod InPlaceLaws
-pub mod InPlaceSteps
+pub mod Decoded
 pub mod OffsetLaws
-pub mod Patches
-pub mod RoundTrip
 pub mod Signed
-pub mod Tabulated

@@ -1,10 +1,10 @@
 -- Document 01, "Commands": operands of fixed width, low byte first, signed ones in two's complement.
-use Prim.Native.Nat.{ℕ, zero, suc, _+_, _*_, _/_, _%_}
+use Prim.Native.Nat.{ℕ, _+_, _*_}
 use mathlib.Core.List.{List, [], _∷_}
 use lib.IntN.{ℤ}
 use lib.ListN.{take, drop, getD}
 use mir.Syntax.{w8, w64}
-use mir.Val.{Fits, toZ, ofZ}
+use mir.Val.{Fits, toZ}
 
 -- every element is a byte, as of a slice in the code (past the end `getD` gives 0)
 abbrev pub AreBytes : List ℕ → Type 0
@@ -15,18 +15,10 @@ unfoldable pub fromBytes : List ℕ → ℕ
 fromBytes [] = 0
 fromBytes (b ∷ bs) = fromBytes bs * 256 + b
 
--- the k low bytes of n, low byte first
-unfoldable pub toBytes : ℕ → ℕ → List ℕ
-toBytes zero n = []
-toBytes (suc k) n = n % 256 ∷ toBytes k (n / 256)
-
 -- the operand of k bytes at an offset of a stream
 abbrev pub unsignedAt : List ℕ → ℕ → ℕ → ℕ
 unsignedAt s at k = fromBytes (take k (drop at s))
 
--- the signed 64-bit operand at an offset, and the bytes of one
+-- the signed 64-bit operand at an offset
 abbrev pub signedAt : List ℕ → ℕ → ℤ
 signedAt s at = toZ w64 (unsignedAt s at 8)
-
-abbrev pub signedBytes : ℤ → List ℕ
-signedBytes z = toBytes 8 (ofZ w64 z)

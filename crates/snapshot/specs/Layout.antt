@@ -1,11 +1,10 @@
 -- Document 01, "Commands": a snapshot (the paper's group) is the commands 10, 11, then 12 for the places 0 to m − 1 rising, then 13.
--- Where each command stands, its operands in a stream, and its bytes: these numbers stand nowhere else.
-use Prim.Native.Nat.{ℕ, zero, suc, _+_, _*_}
-use mathlib.Core.List.{List, [], _∷_, _++_}
-use lib.IntN.{ℤ, pos}
+-- Where each command stands, and its operands in a stream: these numbers stand nowhere else.
+use Prim.Native.Nat.{ℕ, _+_, _*_}
+use mathlib.Core.List.{List}
+use lib.IntN.{ℤ}
 use lib.ListN.{getD}
-use Rattle.models.specs.Models.{modelByte}
-use Rattle.snapshot.specs.Bytes.{unsignedAt, signedAt, toBytes, signedBytes}
+use Rattle.snapshot.specs.Bytes.{unsignedAt, signedAt}
 use Rattle.snapshot.specs.CommandTable.{modelLength, levelLength, seasonLength, positionLength}
 
 -- ---- where each command stands
@@ -65,24 +64,3 @@ indexIn s m = getD s (positionAt m + 1) 0
 
 abbrev pub countIn : List ℕ → ℕ → ℕ
 countIn s m = unsignedAt s (positionAt m + 2) 8
-
--- ---- their bytes
-abbrev pub parameterBytes : ℕ → ℕ → ℕ → ℕ → List ℕ
-parameterBytes A B G F = toBytes 4 A ++ (toBytes 4 B ++ (toBytes 4 G ++ toBytes 4 F))
-
-unfoldable pub modelBytes : ℕ → ℕ → ℕ → ℕ → ℕ → ℕ → List ℕ
-modelBytes model m A B G F = 0x10 ∷ modelByte model ∷ m ∷ parameterBytes A B G F
-
-unfoldable pub levelBytes : ℤ → ℤ → List ℕ
-levelBytes l b = 0x11 ∷ (signedBytes l ++ signedBytes b)
-
-unfoldable pub seasonBytes : ℕ → ℤ → List ℕ
-seasonBytes k v = 0x12 ∷ k ∷ signedBytes v
-
--- places 0 to n − 1 rising
-unfoldable pub seasonsBytes : List ℤ → ℕ → List ℕ
-seasonsBytes cells zero = []
-seasonsBytes cells (suc n) = seasonsBytes cells n ++ seasonBytes n (getD cells n (pos 0))
-
-unfoldable pub positionBytes : ℕ → ℕ → List ℕ
-positionBytes p n = 0x13 ∷ p ∷ toBytes 8 n

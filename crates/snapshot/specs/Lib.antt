@@ -3,6 +3,6 @@ pub mod Bytes
 pub mod CommandTable
 pub mod Layout
 pub mod Snapshots
-pub mod InPlace
+pub mod Slices
 pub mod Facts
 pub mod Promises

@@ -1,25 +1,19 @@
--- Document 01, "Commands" and the refusals 2 to 10 and 12 of a snapshot (the paper's group): reading one, and saving the one of a state.
+-- Document 01, "Commands" and the refusals 2 to 10 of a snapshot (the paper's group): reading one.
 use Prim.Native.Nat.{ℕ, zero, suc, _-_}
 use mathlib.Core.Bool.{_&&_}
-use mathlib.Core.List.{List, _++_}
+use mathlib.Core.List.{List}
 use lib.Dec.{eqb, ltb, leb}
 use lib.IntN.{ℤ, pos}
 use lib.ListN.{length, drop, getD, set, replicate}
-use lib.Seq.{sets}
-use Rattle.state.specs.Rejections.{unless, _then_, outcome, unknown-command, out-of-place, truncated, bad-model, bad-period, bad-parameter, wrong-index, bad-value, bad-position, short-buffer, accepting}
+use Rattle.state.specs.Rejections.{unless, _then_, outcome, unknown-command, out-of-place, truncated, bad-model, bad-period, bad-parameter, wrong-index, bad-value, bad-position, accepting}
 use Rattle.state.specs.Fixed.{inRange}
 use Rattle.models.specs.Models.{validModel, periodOk, parametersOk}
-use Rattle.state.specs.States.{trendOk, indexOk, countOk, check, noState}
+use Rattle.state.specs.States.{trendOk, indexOk, countOk, noState}
 use Rattle.state.specs.declared.State.{State}
-use Rattle.state.specs.declared.Outcome.{Outcome}
-use Rattle.snapshot.specs.Answers.{lengthAnswer}
 use Rattle.snapshot.specs.CommandTable.{commandSize, isCommand}
-use Rattle.snapshot.specs.Layout.{modelAt, levelAt, seasonAt, positionAt, sizeOf, modelIn, periodIn, alphaIn, betaIn, gammaIn, phiIn, levelIn, trendIn, seasonIndexIn, seasonIn, indexIn, countIn, modelBytes, levelBytes, seasonsBytes, positionBytes}
+use Rattle.snapshot.specs.Layout.{modelAt, levelAt, seasonAt, positionAt, sizeOf, modelIn, periodIn, alphaIn, betaIn, gammaIn, phiIn, levelIn, trendIn, seasonIndexIn, seasonIn, indexIn, countIn}
 use Rattle.snapshot.specs.declared.Opened.{Opened}
-use Rattle.snapshot.specs.declared.Length.{Length}
 use Rattle.snapshot.specs.declared.reading.Scanned.{Scanned}
-
--- ---- reading
 
 -- what rejects the command that is due at an offset, by its first byte, before its operands are looked at; or 0
 unfoldable pub dueCode : List ℕ → ℕ → ℕ → ℕ
@@ -111,28 +105,3 @@ read s =
 -- the rest of the caller's bytes: after an accepted snapshot what follows it, after a rejection the part that begins with the rejected command
 unfoldable pub restOf : List ℕ → List ℕ
 restOf s = drop (openOffset s) s
-
--- ---- saving
-
--- the bytes needed are told before anything is written
-unfoldable pub bytesNeeded : State → Length
-bytesNeeded s = lengthAnswer (check s) (sizeOf (s .period))
-
--- the snapshot of a state
-unfoldable pub encoded : State → List ℕ
-encoded s =
-    modelBytes (s .model) (s .period) (s .alpha) (s .beta) (s .gamma) (s .phi)
-    ++ (levelBytes (s .level) (s .trend)
-    ++ (seasonsBytes (s .seasonal) (s .period)
-    ++ positionBytes (s .index) (s .count)))
-
--- what rejects saving into so much room, or 0
-unfoldable pub saveCode : State → ℕ → ℕ
-saveCode s room = check s then unless (leb (sizeOf (s .period)) room) short-buffer
-
--- the call: its answer, and the bytes that the buffer then holds
-unfoldable pub save : State → ℕ → Outcome
-save s room = outcome (saveCode s room)
-
-unfoldable pub savedBytes : State → List ℕ → List ℕ
-savedBytes s buffer = accepting (saveCode s (length buffer)) (sets buffer modelAt (encoded s)) (λ (n : ℕ). buffer)

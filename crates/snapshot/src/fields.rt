@@ -1,4 +1,5 @@
 // The numbers of a snapshot, each read where it stands.
+use super::Checked;
 use super::bytes::read_i64;
 use super::bytes::read_le;
 use super::bytes::read_u32;
@@ -15,26 +16,19 @@ use ets::Numbers;
 use state::State;
 ghost use mathlib.Core.Path.{_≡_};
 ghost use mathlib.Core.Bool.{cond};
-ghost use Prim.Native.Nat.{_+_, _-_, _%_, _≤_, _<_};
+ghost use Prim.Native.Nat.{_+_, _≤_};
 ghost use lib.Dec.{eqb};
 ghost use lib.IntN.{pos};
 ghost use lib.ListN.{length, replicate};
 ghost use Rattle.snapshot.specs.CommandTable.{seasonLength};
 ghost use Rattle.snapshot.specs.Layout.{seasonAt, periodIn, seasonIn, indexIn};
 ghost use Rattle.snapshot.specs.Snapshots.{cellsAt, decoded};
-ghost use Rattle.snapshot.specs.Facts.{Room, checkedIn, aheadIn};
-
-// What a call goes by: the slice's rejection or 0, and then the numbers of its snapshot, the season value being the one due.
-pub struct Checked {
-    pub code: u8,
-    pub period: u8,
-    pub index: u8,
-    pub numbers: Numbers,
-}
+ghost use Rattle.snapshot.specs.Slices.{checkedIn};
+ghost use Rattle.snapshot.specs.Facts.{Room};
 
 // The season value of index k.
-fn season_value(s: &[u8], k: usize) -> i64
-    requires { ⌜ (k ≤ 48) × (seasonAt k + seasonLength ≤ length (now s)) ⌝ }
+pub fn season_in(s: &[u8], k: u8) -> i64
+    requires { ⌜ seasonAt k + seasonLength ≤ length (now s) ⌝ }
     ensures { λ r. ⌜ r ≡ seasonIn (now (s .entry)) k ⌝ }
 {
     read_i64(s, season_at(k) + 2)
@@ -48,19 +42,7 @@ fn season_due(s: &[u8], m: u8, p: u8) -> i64
     if m == 0 {
         return 0;
     }
-    season_value(s, p as usize)
-}
-
-// The season value of a horizon, 0 without season.
-pub fn season_ahead(s: &[u8], m: u8, p: u8, h: u32) -> i64
-    requires { ⌜ Room (now s) m p ⌝ }
-    ensures { λ r. ⌜ r ≡ aheadIn (now (s .entry)) m p h ⌝ }
-{
-    if (m == 0) | (h == 0) {
-        return 0;
-    }
-    let ahead = (p as usize) + (h as usize) - 1;
-    season_value(s, ahead % (m as usize))
+    season_in(s, p)
 }
 
 // The numbers of an accepted snapshot.
@@ -69,7 +51,7 @@ pub fn checked_at(s: &[u8]) -> Checked
     ensures { λ r. ⌜ r ≡ checkedIn (now (s .entry)) ⌝ }
 {
     let period = s[PERIOD_AT];
-    let at = season_at(period as usize);
+    let at = season_at(period);
     let index = s[at + 1];
     Checked {
         code: 0,
@@ -88,14 +70,14 @@ pub fn checked_at(s: &[u8]) -> Checked
     }
 }
 
-fn read_cells(s: &[u8], m: usize, cells: &mut [i64; 48])
+fn read_cells(s: &[u8], m: u8, cells: &mut [i64; 48])
     requires { ⌜ (m ≤ 48) × (seasonAt m ≤ length (now s)) × (now cells ≡ replicate 48 (pos 0)) ⌝ }
     ensures { λ _. ⌜ now (cells .exit) ≡ cellsAt (now (s .entry)) m ⌝ }
 {
     let mut k = 0;
     while k < m {
-        let v = season_value(s, k);
-        cells[k] = v;
+        let v = season_in(s, k);
+        cells[k as usize] = v;
         k += 1;
     }
 }
@@ -120,6 +102,6 @@ pub fn state_at(s: &[u8]) -> State
         index: x.index,
         count: n.count,
     };
-    read_cells(s, x.period as usize, &mut state.seasonal);
+    read_cells(s, x.period, &mut state.seasonal);
     state
 }

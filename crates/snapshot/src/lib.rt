@@ -1,33 +1,36 @@
-// A state to bytes and back: document 01, "Commands". A snapshot is the paper's group.
+// Reading a snapshot: document 01, "Commands". A snapshot is the paper's group.
 mod bytes;
 mod fields;
-pub mod in_place;
-mod layout;
+pub mod layout;
 pub mod promises;
 mod reading;
-mod saving;
+pub mod slices;
 mod table;
 
+use ets::Numbers;
 use fields::state_at;
-use layout::size_of;
 use reading::scan;
-use saving::write_snapshot;
 use state::Outcome;
-use state::SHORT_BUFFER;
 use state::State;
-use state::checks::check;
 use state::no_state;
 pub use table::command_length;
 pub use table::is_command;
 pub use table::only_in_snapshot;
 ghost use mathlib.Core.Path.{_≡_};
-ghost use lib.ListN.{length};
-ghost use Rattle.snapshot.specs.Snapshots.{openCode, read, restOf, bytesNeeded, save, savedBytes};
+ghost use Rattle.snapshot.specs.Snapshots.{openCode, read, restOf};
 
 // What reading a snapshot gives: the state, or the rejection and a state that every check refuses.
 pub struct Opened {
     pub outcome: Outcome,
     pub state: State,
+}
+
+// What a call on a lent slice goes by: the slice's rejection or 0, and then the numbers of its snapshot, the season value being the one due.
+pub struct Checked {
+    pub code: u8,
+    pub period: u8,
+    pub index: u8,
+    pub numbers: Numbers,
 }
 
 // The bytes that a state's snapshot needs, or those of a command.
@@ -65,31 +68,4 @@ pub fn rest<'a>(stream: &'a [u8], code: &mut u8) -> &'a [u8]
     *code = rejection;
     let offset = found.offset;
     &stream[offset..]
-}
-
-// The bytes that saving a state needs, told before anything is written.
-pub fn bytes_needed(s: State) -> Length
-    ensures { λ r. ⌜ r ≡ bytesNeeded s ⌝ }
-{
-    let code = check(s);
-    if code != 0 {
-        return Length::Rejected(code);
-    }
-    Length::Bytes(size_of(s.period as usize))
-}
-
-// Writes the snapshot of a state at the front of a buffer: the state is checked first, then the room, before anything is written.
-pub fn save(s: State, buffer: &mut [u8]) -> Outcome
-    ensures answer { λ r. ⌜ r ≡ save s (length (now (buffer .entry))) ⌝ }
-    ensures bytes { λ _. ⌜ now (buffer .exit) ≡ savedBytes s (now (buffer .entry)) ⌝ }
-{
-    let code = check(s);
-    if code != 0 {
-        return Outcome::Rejected(code);
-    }
-    if buffer.len() < size_of(s.period as usize) {
-        return Outcome::Rejected(SHORT_BUFFER);
-    }
-    write_snapshot(buffer, s);
-    Outcome::Accepted
 }

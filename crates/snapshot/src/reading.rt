@@ -36,7 +36,7 @@ use state::first;
 use state::unless;
 ghost use mathlib.Core.Path.{_≡_};
 ghost use mathlib.Core.Bool.{true, _&&_};
-ghost use Prim.Native.Nat.{_+_, _≤_, _<_};
+ghost use Prim.Native.Nat.{_+_, _≤_};
 ghost use lib.ListN.{length};
 ghost use Rattle.state.specs.Fixed.{inRange};
 ghost use Rattle.models.specs.Models.{parametersOk};
@@ -114,8 +114,7 @@ fn level_code(s: &[u8]) -> u8
     unless(values_at(s), BAD_VALUE)
 }
 
-fn season_code(s: &[u8], k: usize) -> u8
-    requires { ⌜ k < 48 ⌝ }
+fn season_code(s: &[u8], k: u8) -> u8
     ensures { λ r. ⌜ r ≡ seasonCode (now (s .entry)) k ⌝ }
 {
     let at = season_at(k);
@@ -123,14 +122,14 @@ fn season_code(s: &[u8], k: usize) -> u8
     if code != 0 {
         return code;
     }
-    if s[at + 1] as usize != k {
+    if s[at + 1] != k {
         return WRONG_INDEX;
     }
     unless(in_range(read_i64(s, at + 2)), BAD_VALUE)
 }
 
 fn position_code(s: &[u8], at: usize, m: u8) -> u8
-    requires { ⌜ (m ≤ 48) × (at ≡ seasonAt m) ⌝ }
+    requires { ⌜ at ≡ seasonAt m ⌝ }
     ensures { λ r. ⌜ r ≡ positionCode (now (s .entry)) m ⌝ }
 {
     let code = due(s, at, 0x13);
@@ -145,10 +144,9 @@ fn position_code(s: &[u8], at: usize, m: u8) -> u8
 
 // The command 13, after m places.
 fn scan_position(s: &[u8], m: u8) -> Scanned
-    requires { ⌜ m ≤ 48 ⌝ }
     ensures { λ r. ⌜ r ≡ scanPosition (now (s .entry)) m ⌝ }
 {
-    let at = season_at(m as usize);
+    let at = season_at(m);
     let code = position_code(s, at, m);
     if code != 0 {
         return Scanned { code, offset: at };
@@ -161,12 +159,10 @@ fn scan_position(s: &[u8], m: u8) -> Scanned
 
 // The commands 12 for the places 0 to m − 1 rising, and then 13.
 fn scan_seasons(s: &[u8], m: u8) -> Scanned
-    requires { ⌜ m ≤ 48 ⌝ }
     ensures { λ r. ⌜ r ≡ scanSeasons (now (s .entry)) 0 m (scanPosition (now (s .entry)) m) ⌝ }
 {
-    let n = m as usize;
     let mut k = 0;
-    while k < n {
+    while k < m {
         let code = season_code(s, k);
         if code != 0 {
             return Scanned {

@@ -14,11 +14,14 @@ use Rattle.ets.specs.Batches.{run, preceded, halted, takeCode, afterTake, batch
 use Rattle.forecasts.specs.Forecasts.{forecastCode, forecastOf, forecast}
 use Rattle.forecasts.proofs.ForecastLaws.{list-length}
 use Rattle.ets.proofs.Kept.{reading-kept, missing-kept}
-use Rattle.snapshot.specs.Snapshots.{encoded, decoded}
-use Rattle.snapshot.proofs.RoundTrip.{accepted-passes, length-decoded, whole}
-use Rattle.snapshot.proofs.InPlaceSteps.{one-snapshot}
-use Rattle.snapshot.specs.InPlace.{inPlaceCode, inPlaceStepBytes, inPlaceMissingBytes}
-use Rattle.snapshot.proofs.InPlaceLaws.{in-place-is-direct}
+use Rattle.snapshot.specs.Snapshots.{decoded}
+use Rattle.snapshot.specs.Slices.{inPlaceCode}
+use Rattle.snapshot.proofs.Accepting.{one-snapshot}
+use Rattle.snapshot.proofs.Decoded.{accepted-passes, length-decoded}
+use Rattle.saving.specs.Encoding.{encoded}
+use Rattle.saving.specs.InPlace.{inPlaceStepBytes, inPlaceMissingBytes}
+use Rattle.saving.proofs.InPlaceLaws.{in-place-is-direct}
+use Rattle.saving.proofs.RoundTrip.{whole}
 use Rattle.traces.specs.Calls.{followed, Reading, Missing, Forecast, InPlaceReading, InPlaceMissing, InPlaceForecast, horizon, Result, result}
 use Rattle.traces.specs.Laws.{filled, Passing, CallLaws, InPlaceLaws, Holds, SliceLaws}
 use Rattle.traces.proofs.Slices.{too-short}

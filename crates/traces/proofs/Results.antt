@@ -18,8 +18,10 @@ use Rattle.ets.specs.Batches.{batchRun, batch, batchLevels}
 use Rattle.forecasts.specs.Forecasts.{forecastCode, forecastOf, forecast, forecastList, forecastsCode, forecastCells, forecastTo, forecastCellsTo, forecastsTo}
 use Rattle.forecasts.proofs.ForecastLaws.{list-length}
 use Rattle.ets.proofs.Kept.{cells-kept, reading-kept, missing-kept}
-use Rattle.snapshot.specs.Snapshots.{encoded, decoded}
-use Rattle.snapshot.specs.InPlace.{inPlaceCode, inPlaceStepCode, inPlaceStepBytes, inPlaceMissingCode, inPlaceMissingBytes, inPlaceForecastCode, inPlaceForecast}
+use Rattle.snapshot.specs.Snapshots.{decoded}
+use Rattle.snapshot.specs.Slices.{inPlaceCode}
+use Rattle.saving.specs.Encoding.{encoded}
+use Rattle.saving.specs.InPlace.{inPlaceStepCode, inPlaceStepBytes, inPlaceMissingCode, inPlaceMissingBytes, inPlaceForecastCode, inPlaceForecast}
 use Rattle.traces.specs.Calls.{Slice, sliceOf, stateIn, Call, Reading, Missing, Batch, Forecast, Forecasts, InPlaceReading, InPlaceMissing, InPlaceForecast, observed, unobserved, series, horizon, horizons, Result, answered, result}
 use Rattle.traces.proofs.Slices.{accepted-holds, untouched-holds, rewritten-holds}
 

@@ -8,12 +8,11 @@ use lib.ListN.{length, take, drop, getD, take-append-drop}
 use lib.Seq.{take-all, length-take-le, getD-take}
 use Rattle.state.specs.States.{check}
 use Rattle.state.specs.declared.State.{State}
-use Rattle.snapshot.specs.Layout.{modelBytes}
-use Rattle.snapshot.specs.Snapshots.{encoded, decoded}
-use Rattle.snapshot.proofs.RoundTrip.{read-back, length-encoded}
-use Rattle.snapshot.specs.InPlace.{inPlaceCode}
-use Rattle.snapshot.proofs.Accepting.{accepted-size}
-use Rattle.snapshot.proofs.InPlaceSteps.{one-snapshot}
+use Rattle.snapshot.specs.Snapshots.{decoded}
+use Rattle.snapshot.specs.Slices.{inPlaceCode}
+use Rattle.snapshot.proofs.Accepting.{accepted-size, one-snapshot}
+use Rattle.saving.specs.Encoding.{modelBytes, encoded}
+use Rattle.saving.proofs.RoundTrip.{read-back, length-encoded}
 use Rattle.traces.specs.Calls.{Slice, followed, cut, sliceOf, stateIn}
 
 -- the length of a snapshot is told by its season length, so that no shorter beginning of it is one

@@ -17,8 +17,9 @@ use Rattle.state.specs.declared.State.{State}
 use Rattle.ets.specs.Steps.{step, missing}
 use Rattle.ets.specs.Batches.{batch, batchLevels}
 use Rattle.forecasts.specs.Forecasts.{forecast, forecasts, forecastCells}
-use Rattle.snapshot.specs.Snapshots.{encoded, decoded}
-use Rattle.snapshot.specs.InPlace.{inPlaceStepCode, inPlaceStepBytes, inPlaceMissingCode, inPlaceMissingBytes, inPlaceForecastCode, inPlaceForecast}
+use Rattle.snapshot.specs.Snapshots.{decoded}
+use Rattle.saving.specs.Encoding.{encoded}
+use Rattle.saving.specs.InPlace.{inPlaceStepCode, inPlaceStepBytes, inPlaceMissingCode, inPlaceMissingBytes, inPlaceForecastCode, inPlaceForecast}
 
 -- What a call in place is lent of the memory with the state's snapshot: all of it and the bytes that follow (any of which makes the call a rejected one), or its first
 -- `size` bytes alone (too few make it one).

@@ -7,8 +7,10 @@ use lib.IntN.{ℤ}
 use lib.ListN.{length, take, getD}
 use Rattle.state.specs.States.{check}
 use Rattle.state.specs.declared.State.{State}
-use Rattle.snapshot.specs.Snapshots.{encoded, decoded}
-use Rattle.snapshot.specs.InPlace.{inPlaceCode, inPlaceStepBytes, inPlaceMissingBytes}
+use Rattle.snapshot.specs.Snapshots.{decoded}
+use Rattle.snapshot.specs.Slices.{inPlaceCode}
+use Rattle.saving.specs.Encoding.{encoded}
+use Rattle.saving.specs.InPlace.{inPlaceStepBytes, inPlaceMissingBytes}
 use Rattle.traces.specs.Calls.{followed, Call, Reading, Missing, Forecast, InPlaceReading, InPlaceMissing, InPlaceForecast, Event, observed, unobserved, series, horizon, horizons, result, sliceOf}
 
 -- the cells that a call filled, or the forecast that it answered

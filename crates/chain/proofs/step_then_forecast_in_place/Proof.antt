@@ -2,9 +2,10 @@ use mathlib.Core.Path.{_≡_}
 use mathlib.Core.List.{List, []}
 use Prim.Native.Nat.{ℕ}
 use lib.IntN.{ℤ}
-use Rattle.snapshot.specs.Snapshots.{decoded}
 use Rattle.snapshot.specs.Bytes.{AreBytes}
-use Rattle.snapshot.specs.InPlace.{inPlaceCode, inPlaceStepBytes, inPlaceForecastCode, inPlaceForecast}
+use Rattle.snapshot.specs.Snapshots.{decoded}
+use Rattle.snapshot.specs.Slices.{inPlaceCode}
+use Rattle.saving.specs.InPlace.{inPlaceStepBytes, inPlaceForecastCode, inPlaceForecast}
 use Rattle.traces.specs.Calls.{followed, InPlaceReading}
 use Rattle.chain.specs.Chains.{ForecastWithin}
 use Rattle.chain.proofs.Chains.{in-place}

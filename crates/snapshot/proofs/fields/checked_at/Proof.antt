@@ -8,9 +8,6 @@ use Rattle.snapshot.proofs.fields.checked_at.Tie as tie
 shared-slice-read-period : tie.Need-shared-slice-read-period
 shared-slice-read-period c = search needs
 
-cast-season-at : tie.Need-cast-season-at
-cast-season-at c = search needs
-
 season-at-requires : tie.Need-season-at-requires
 season-at-requires c κs = search needs
 
@@ -65,7 +62,6 @@ checked-at-spec =
     tie.close
     (tie.spec
     shared-slice-read-period
-    cast-season-at
     season-at-requires
     add-index
     shared-slice-read-index

@@ -19,8 +19,11 @@ loop-holds : tie.Need-loop-holds Inv-loop μ-loop
 unfolding cellsAt
 loop-holds c = (zero-le, c .before .pre .2)
 
-season-value-requires : tie.Need-season-value-requires Inv-loop μ-loop
-season-value-requires c κs = (omega arith, omega arith)
+season-in-requires : tie.Need-season-in-requires Inv-loop μ-loop
+season-in-requires c κs = omega arith
+
+cast-v : tie.Need-cast-v Inv-loop μ-loop
+cast-v c = omega arith
 
 mul-v : tie.Need-mul-v Inv-loop μ-loop
 mul-v c = omega arith
@@ -36,7 +39,7 @@ loop-less c = omega arith
 
 loop-again : tie.Need-loop-again Inv-loop μ-loop
 unfolding cellsAt
-loop-again c = (omega arith, rw (add-one, ← (c .before .before .loop .inv .1), back w64 _ (c .season-value .ok) ∙ c .season-value .ensures))
+loop-again c = (omega arith, rw (add-one, ← (c .before .before .loop .inv .1), back w64 _ (c .season-in .ok) ∙ c .season-in .ensures))
 
 returns : tie.Need-returns Inv-loop μ-loop
 returns c =
@@ -50,7 +53,8 @@ read-cells-spec =
     Inv-loop
     μ-loop
     loop-holds
-    season-value-requires
+    season-in-requires
+    cast-v
     mul-v
     element-set-from-v
     add-k

@@ -1,7 +1,7 @@
 -- `snapshot::fields::state_at` meets its contract, number for number.
 use mathlib.Core.Path.{refl, ap}
 use native.Mathlib.Omega.{arith}
-use Rattle.snapshot.specs.declared.fields.Checked.{Checked}
+use Rattle.snapshot.specs.declared.Checked.{Checked}
 use mir.Syntax.{w64}
 use Rattle.integers.proofs.Difference.{back}
 use Rattle.snapshot.specs.Snapshots.{decoded}
@@ -15,12 +15,9 @@ checked-at-requires c κs = search needs
 shared-slice-read-t6 : tie.Need-shared-slice-read-t6
 shared-slice-read-t6 c = search needs
 
-cast-read-cells : tie.Need-cast-read-cells
-cast-read-cells c = search needs
-
 read-cells-requires : tie.Need-read-cells-requires
 read-cells-requires c κs =
-    let x = c .before .before .before .before .before in
+    let x = c .before .before .before .before in
     let e = ap (λ (x : Checked). x .period) (x .checked-at .ensures) in
     let r = x .before .before .pre in
     (omega (arith, r .period), omega (arith, r .size), refl)
@@ -28,11 +25,11 @@ read-cells-requires c κs =
 returns : tie.Need-returns
 unfolding decoded
 returns c =
-    let x = c .before .before .before .before .before .before .checked-at in
-    let t = c .before .before .before .struct-told .given in
+    let x = c .before .before .before .before .before .checked-at in
+    let t = c .before .before .struct-told .given in
     rw (back w64 (x .result .numbers .level) (t .1 .1 .1 .1 .0 .1), back w64 (x .result .numbers .trend) (t .1 .1 .1 .1 .1 .0 .1), c .read-cells .ensures, x .ensures)
 
 pub state-at-spec : {M : Type 1} → statement M
 state-at-spec =
     tie.close
-    (tie.spec checked-at-requires shared-slice-read-t6 cast-read-cells read-cells-requires returns)
+    (tie.spec checked-at-requires shared-slice-read-t6 read-cells-requires returns)

@@ -1,4 +1,4 @@
-use Rattle.snapshot.proofs.RoundTrip.{rejected-state}
+use Rattle.snapshot.proofs.Decoded.{rejected-state}
 use Rattle.snapshot.proofs.promises.rejected_state.Statement.{statement}
 use Rattle.snapshot.proofs.promises.rejected_state.Tie as tie
 

@@ -23,7 +23,7 @@ due-requires c κs = refl
 
 returns : tie.Need-returns
 unfolding positionCode
-returns c = rw (← (c .before .before .before .pre .1), ← (c .before .due .ensures), ne-eqb _ _ (c .if1 .taken))
+returns c = rw (← (c .before .before .before .pre), ← (c .before .due .ensures), ne-eqb _ _ (c .if1 .taken))
 
 add-index-ok : tie.Need-add-index-ok
 add-index-ok c = search needs
@@ -51,7 +51,7 @@ unfolding positionCode
 returns-2 c =
     let r = c .before .before in
     let i = r .before .before .before in
-    rw (← (i .before .before .before .pre .1), ← (i .before .due .ensures), eq-eqb _ _ (i .if1 .left), ← (r .read-le .ensures .0), ← (r .before .index-ok .ensures), ← (c .before .count-ok .ensures)) (c .unless .ensures)
+    rw (← (i .before .before .before .pre), ← (i .before .due .ensures), eq-eqb _ _ (i .if1 .left), ← (r .read-le .ensures .0), ← (r .before .index-ok .ensures), ← (c .before .count-ok .ensures)) (c .unless .ensures)
 
 pub position-code-spec : {M : Type 1} → statement M
 position-code-spec =

@@ -5,18 +5,15 @@ use native.Mathlib.Omega.{arith}
 use lib.ListN.{length}
 use borrow.Author.Tests.{eq-eqb, ne-eqb}
 use Rattle.snapshot.specs.CommandTable.{modelLength}
-use Rattle.snapshot.specs.Layout.{periodIn}
 use Rattle.snapshot.specs.Snapshots.{scan}
-use Rattle.snapshot.proofs.Accepting.{model, period-most}
+use Rattle.snapshot.proofs.Accepting.{model}
 use borrow.Author.Needs.{needs}
 use Rattle.snapshot.proofs.reading.scan.Statement.{statement}
 use Rattle.snapshot.proofs.reading.scan.Tie as tie
 
--- what a command 10 that was not rejected has
-facts : (c : tie.Else1) → let s = c .before .before .before .args .s .now in (periodIn s ≤ 48) × (modelLength ≤ length s)
-facts c =
-    let m = model _ (sym (c .before .model-code .ensures) ∙ c .if1 .left) in
-    (period-most m, m .due .room)
+-- a command 10 that was not rejected is there, whole
+room : (c : tie.Else1) → modelLength ≤ length (c .before .before .before .args .s .now)
+room c = model _ (sym (c .before .model-code .ensures) ∙ c .if1 .left) .due .room
 
 model-code-requires : tie.Need-model-code-requires
 model-code-requires c κs = search needs
@@ -35,10 +32,10 @@ returns-2 c =
     rw (← (m .before .model-code .ensures), eq-eqb _ _ (m .if1 .left), ← (c .before .level-code .ensures), ne-eqb _ _ (c .if2 .taken))
 
 shared-slice-read-scan-seasons : tie.Need-shared-slice-read-scan-seasons
-shared-slice-read-scan-seasons c = omega (arith, facts (c .before .before .before))
+shared-slice-read-scan-seasons c = omega (arith, room (c .before .before .before))
 
 scan-seasons-requires : tie.Need-scan-seasons-requires
-scan-seasons-requires c κs = facts (c .before .before .before) .0
+scan-seasons-requires c κs = search needs
 
 returns-3 : tie.Need-returns-3
 unfolding scan

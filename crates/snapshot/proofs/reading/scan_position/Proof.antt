@@ -13,12 +13,12 @@ position-code-requires c κs = search needs
 returns : tie.Need-returns
 returns c = rw (c .before .before .season-at .ensures, ← (c .before .position-code .ensures), ne-eqb _ _ (c .if1 .taken))
 
-add-t5 : tie.Need-add-t5
-add-t5 c = search needs
+add-t6 : tie.Need-add-t6
+add-t6 c = search needs
 
 returns-2 : tie.Need-returns-2
 returns-2 c = rw (c .before .before .season-at .ensures, ← (c .before .position-code .ensures), eq-eqb _ _ (c .if1 .left))
 
 pub scan-position-spec : {M : Type 1} → statement M
 scan-position-spec =
-    tie.close (tie.spec season-at-requires position-code-requires returns add-t5 returns-2)
+    tie.close (tie.spec season-at-requires position-code-requires returns add-t6 returns-2)

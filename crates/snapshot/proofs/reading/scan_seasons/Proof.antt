@@ -5,6 +5,7 @@ use mathlib.Core.List.{List}
 use native.Mathlib.Nat.{sub-zero}
 use native.Mathlib.Numerals.{add-one}
 use native.Mathlib.Omega.{arith}
+use borrow.Author.Needs.{needs}
 use borrow.Author.Tests.{ne-eqb}
 use Rattle.snapshot.specs.Layout.{seasonAt}
 use Rattle.snapshot.specs.Snapshots.{seasonCode, scanPosition, scanSeasons}
@@ -22,19 +23,19 @@ unfolding scanSeasons
 stops s k n r z = rw (ne-eqb (seasonCode s k) 0 z)
 
 abbrev Inv-loop : tie.InvT-loop
-Inv-loop s m n k₀ k = (k ≤ m) × (scanSeasons s k (m - k) (scanPosition s m) ≡ scanSeasons s 0 m (scanPosition s m))
+Inv-loop s m k₀ k = (k ≤ m) × (scanSeasons s k (m - k) (scanPosition s m) ≡ scanSeasons s 0 m (scanPosition s m))
 
 abbrev μ-loop : tie.MeasureT-loop
-μ-loop s m n k₀ k = m - k
+μ-loop s m k₀ k = m - k
 
 loop-holds : tie.Need-loop-holds Inv-loop μ-loop
 loop-holds c = (zero-le, rw sub-zero)
 
 season-code-requires : tie.Need-season-code-requires Inv-loop μ-loop
-season-code-requires c κs = omega arith
+season-code-requires c κs = search needs
 
 season-at-requires : tie.Need-season-at-requires Inv-loop μ-loop
-season-at-requires c κs = omega arith
+season-at-requires c κs = search needs
 
 returns : tie.Need-returns Inv-loop μ-loop
 returns c =
@@ -58,7 +59,7 @@ loop-again c =
     (omega arith, sym (passes (a .s .now) (l .k) _ (scanPosition (a .s .now) (a .m)) (sym (c .before .season-code .ensures) ∙ c .if1 .left)) ∙ (rw e at (l .inv .1)))
 
 scan-position-requires : tie.Need-scan-position-requires Inv-loop μ-loop
-scan-position-requires c κs = omega arith
+scan-position-requires c κs = search needs
 
 returns-2 : tie.Need-returns-2 Inv-loop μ-loop
 unfolding scanSeasons

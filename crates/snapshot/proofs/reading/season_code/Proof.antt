@@ -35,9 +35,6 @@ add-if2 c = search needs
 shared-slice-read-if2 : tie.Need-shared-slice-read-if2
 shared-slice-read-if2 c = omega (arith, room (c .before))
 
-cast-if2 : tie.Need-cast-if2
-cast-if2 c = omega (arith, c .shared-slice-known2 .given (c .before .before .before .season-at .result + 1))
-
 returns-2 : tie.Need-returns-2
 unfolding seasonCode
 returns-2 c =
@@ -72,7 +69,6 @@ season-code-spec =
     returns
     add-if2
     shared-slice-read-if2
-    cast-if2
     returns-2
     add-read-i64
     read-i64-requires

@@ -1,0 +1,307 @@
+-- Both round trips of a snapshot: reading what was saved gives the state back, and saving what was read writes the same bytes.
+use Prim.Native.Nat.{ℕ, zero, suc, _+_, _*_, _≤_, _<_}
+use mathlib.Core.Path.{_≡_, refl, sym, ap, _∙_}
+use mathlib.Core.Bool.{Bool, true, false}
+use mathlib.Core.Logic.{⊎-elim}
+use mathlib.Core.List.{List, _∷_, _++_, append-assoc}
+use native.Mathlib.Nat.{le-refl, zero-add, add-zero, le-of-suc-le-suc, eq-or-lt-of-le, not-suc-le-zero, lt-of-le-of-lt}
+use native.Mathlib.Omega.{arith}
+use borrow.Author.Tests.{ltb-true, ltb-false, le-leb, lt-ltb}
+use lib.Dec.{lit<, ltb}
+use lib.IntN.{ℤ, pos}
+use lib.ListN.{length, length-append, take, drop, getD}
+use lib.Seq.{getD-drop, drop-drop, drop-at, take-at, drop-cons, length-take-le, take-all, ext-getD, take-add, sets, sets-eq}
+use mir.Syntax.{w64}
+use mir.Val.{SFits, ofZ}
+use Rattle.integers.specs.Bounds.{Within}
+use Rattle.integers.proofs.Bounds.{within-fits}
+use Rattle.state.specs.States.{check, cellOk}
+use Rattle.state.specs.declared.State.{State}
+use Rattle.integers.proofs.Tests.{allBelow-at}
+use Rattle.models.proofs.ModelLaws.{model-again}
+use Rattle.state.proofs.Tests.{zero-is}
+use Rattle.state.specs.Valid.{Bounded}
+use Rattle.state.proofs.Passing.{Passed, passed, bounded}
+use Rattle.snapshot.specs.Bytes.{AreBytes, unsignedAt}
+use Rattle.snapshot.specs.CommandTable.{modelLength, levelLength, seasonLength, positionLength}
+use Rattle.snapshot.specs.Layout.{modelAt, levelAt, seasonAt, positionAt, sizeOf, modelIn, periodIn, alphaIn, betaIn, gammaIn, phiIn, levelIn, trendIn, seasonIn, indexIn, countIn}
+use Rattle.snapshot.specs.Snapshots.{openCode, openOffset, cellsAt, decoded, read, restOf}
+use Rattle.snapshot.specs.declared.reading.Scanned.{Scanned}
+use Rattle.snapshot.proofs.Accepting.{Due, Season, Accepted, accepted, accepts, accepted-size, period-most}
+use Rattle.snapshot.proofs.Decoded.{length-cells, cell-read, cell-none, accepted-passes}
+use Rattle.saving.specs.Encoding.{toBytes, signedBytes, modelBytes, levelBytes, seasonBytes, seasonsBytes, positionBytes, encoded}
+use Rattle.saving.specs.Saving.{save, saveCode, savedBytes}
+use Rattle.saving.specs.Promises.{ReadsSaved, SavesRead}
+use Rattle.saving.proofs.ByteLaws.{length-toBytes, unsigned-back, signed-back, unsigned-again, signed-again}
+
+-- ---- lengths
+pub length-model : (model m A B G F : ℕ) → length (modelBytes model m A B G F) ≡ modelLength
+unfolding modelBytes toBytes
+length-model model m A B G F = refl
+
+pub length-level : (l b : ℤ) → length (levelBytes l b) ≡ levelLength
+unfolding levelBytes toBytes
+length-level l b = refl
+
+pub length-season : (k : ℕ) (v : ℤ) → length (seasonBytes k v) ≡ seasonLength
+unfolding seasonBytes toBytes
+length-season k v = refl
+
+pub length-position : (p n : ℕ) → length (positionBytes p n) ≡ positionLength
+unfolding positionBytes toBytes
+length-position p n = refl
+
+pub length-seasons : (cells : List ℤ) (n : ℕ) → length (seasonsBytes cells n) ≡ seasonLength * n
+unfolding seasonsBytes
+length-seasons cells zero = refl
+length-seasons cells (suc n) =
+    rw (length-append (seasonsBytes cells n) (seasonBytes n (getD cells n (pos 0))), length-seasons cells n, length-season) (omega arith)
+
+pub length-encoded : (s : State) → length (encoded s) ≡ sizeOf (s .period)
+unfolding encoded modelBytes levelBytes positionBytes toBytes
+length-encoded s =
+    rw (length-append (seasonsBytes (s .seasonal) (s .period)) (positionBytes (s .index) (s .count)), length-seasons (s .seasonal) (s .period)) (omega arith)
+
+-- ---- a command with an index byte and eight bytes more, at an offset of a stream
+module _ (x : List ℕ) (at first k : ℕ) (bs u : List ℕ) (e : drop at x ≡ (first ∷ k ∷ bs) ++ u) where
+  byte-at : getD x at 0 ≡ first
+  byte-at = rw (add-zero at) at (sym (getD-drop at x 0 0)) ∙ ap (λ (l : List ℕ). getD l 0 0) e
+
+  index-at : getD x (at + 1) 0 ≡ k
+  index-at = sym (getD-drop at x 1 0) ∙ ap (λ (l : List ℕ). getD l 1 0) e
+
+  operand-at : (n : ℕ) → length bs ≡ n → take n (drop (at + 2) x) ≡ bs
+  operand-at n l = rw (← (drop-drop 2 at x), e) (take-at bs u n l)
+
+-- the command of place k among those of n places
+season-at : (cells : List ℤ) (n k : ℕ) (u : List ℕ) → k < n
+    → (v : List ℕ) × (drop (seasonLength * k) (seasonsBytes cells n ++ u) ≡ seasonBytes k (getD cells k (pos 0)) ++ v)
+unfolding seasonsBytes
+season-at cells zero k u l = absurd (not-suc-le-zero l)
+season-at cells (suc n) k u l =
+    let A = seasonsBytes cells n in
+    let B = seasonBytes n (getD cells n (pos 0)) in
+    ⊎-elim
+    (λ (q : k ≡ n). (u, rw (q, append-assoc A B u) (drop-at A (B ++ u) (seasonLength * n) (length-seasons cells n))))
+    (λ lt. rw (append-assoc A B u) (season-at cells n k (B ++ u) lt))
+    (eq-or-lt-of-le (le-of-suc-le-suc l))
+
+-- a value in range has 64 bits
+pub fits : {v : ℤ} → Within 1099511627776 v → SFits w64 v
+fits w = within-fits w64 w (lit< tt)
+
+module _ (s : State) (t : List ℕ) (p : Passed s) (b : Bounded s) where
+  abbrev x : List ℕ
+  x = encoded s ++ t
+
+  after-level : drop (seasonAt 0) x ≡ seasonsBytes (s .seasonal) (s .period) ++ (positionBytes (s .index) (s .count) ++ t)
+  unfolding encoded modelBytes levelBytes toBytes
+  after-level = append-assoc (seasonsBytes (s .seasonal) (s .period)) (positionBytes (s .index) (s .count)) t
+
+  after : (n : ℕ) → drop (seasonAt 0 + n) x ≡ drop n (seasonsBytes (s .seasonal) (s .period) ++ (positionBytes (s .index) (s .count) ++ t))
+  after n = rw (← (drop-drop n (seasonAt 0) x), after-level)
+
+  model-back : modelIn x ≡ s .model
+  unfolding encoded modelBytes
+  model-back = model-again (s .model) (p .model)
+
+  parameter-back : (at n : ℕ) → take 4 (drop at x) ≡ toBytes 4 n → n ≤ 65536 → unsignedAt x at 4 ≡ n
+  parameter-back at n e h = unsigned-back x at 4 n e (lt-of-le-of-lt h (lit< tt))
+
+  parameters-back : (alphaIn x ≡ s .alpha) × (betaIn x ≡ s .beta) × (gammaIn x ≡ s .gamma) × (phiIn x ≡ s .phi)
+  unfolding encoded modelBytes toBytes
+  parameters-back =
+      (parameter-back (modelAt + 3) (s .alpha) refl (b .alpha), parameter-back (modelAt + 7) (s .beta) refl (b .beta), parameter-back (modelAt + 11) (s .gamma) refl (b .gamma), parameter-back (modelAt + 15) (s .phi) refl (b .phi))
+
+  values-back : (levelIn x ≡ s .level) × (trendIn x ≡ s .trend)
+  unfolding encoded modelBytes levelBytes toBytes
+  values-back = (signed-back x (levelAt + 1) (s .level) refl (fits (b .level)), signed-back x (levelAt + 9) (s .trend) refl (fits (b .trend)))
+
+  size : length x ≡ sizeOf (s .period) + length t
+  size = length-append (encoded s) t ∙ ap (λ (n : ℕ). n + length t) (length-encoded s)
+
+  cell-ok : (k : ℕ) → k < 48 → cellOk (s .period) k (getD (s .seasonal) k (pos 0)) ≡ true
+  cell-ok = allBelow-at 48 (λ (k : ℕ). cellOk (s .period) k (getD (s .seasonal) k (pos 0))) (p .seasonal)
+
+  -- place k
+  module _ (k : ℕ) (l : k < s .period) where
+    abbrev value : ℤ
+    value = getD (s .seasonal) k (pos 0)
+
+    command : (v : List ℕ) × (drop (seasonAt k) x ≡ seasonBytes k value ++ v)
+    command = rw (after (seasonLength * k)) (season-at (s .seasonal) (s .period) k (positionBytes (s .index) (s .count) ++ t) l)
+
+    cell-back : seasonIn x k ≡ value
+    unfolding seasonBytes
+    cell-back =
+        signed-back x (seasonAt k + 2) value
+        (operand-at x (seasonAt k) 0x12 k (signedBytes value) (command .0) (command .1) 8 (length-toBytes 8 (ofZ w64 value)))
+        (fits (b .cells k (omega (arith, b .period))))
+
+    season-back : Season x k
+    unfolding seasonBytes
+    season-back =
+        record {
+          due = record { byte = byte-at x (seasonAt k) 0x12 k (signedBytes value) (command .0) (command .1); room = omega (arith, size) };
+          index = index-at x (seasonAt k) 0x12 k (signedBytes value) (command .0) (command .1);
+          value = rw cell-back (rw (lt-ltb k (s .period) l) at (cell-ok k (omega (arith, b .period))));
+        }
+
+  -- the season cells: those of the places, and 0 from m on
+  seasonal-back : length (s .seasonal) ≡ 48 → cellsAt x (s .period) ≡ s .seasonal
+  seasonal-back l = ext-getD (pos 0) (cellsAt x (s .period)) (s .seasonal) (length-cells x (s .period) ∙ sym l) (λ k h. cell k (rw (length-cells x (s .period)) at h) (ltb k (s .period)) refl)
+    where
+      cell : (k : ℕ) → k < 48 → (t : Bool) → ltb k (s .period) ≡ t → getD (cellsAt x (s .period)) k (pos 0) ≡ getD (s .seasonal) k (pos 0)
+      cell k h true e = let l = ltb-true k (s .period) e in cell-read x (s .period) k (b .period) l ∙ cell-back k l
+      cell k h false e = cell-none x (s .period) k h (ltb-false k (s .period) e) ∙ sym (zero-is (getD (s .seasonal) k (pos 0)) (rw e at (cell-ok k h)))
+
+  -- the command 13
+  last : drop (positionAt (s .period)) x ≡ positionBytes (s .index) (s .count) ++ t
+  last =
+      after (seasonLength * s .period) ∙ drop-at (seasonsBytes (s .seasonal) (s .period)) (positionBytes (s .index) (s .count) ++ t) (seasonLength * s .period) (length-seasons (s .seasonal) (s .period))
+
+  index-back : indexIn x (s .period) ≡ s .index
+  unfolding positionBytes
+  index-back = index-at x (positionAt (s .period)) 0x13 (s .index) (toBytes 8 (s .count)) t last
+
+  count-back : countIn x (s .period) ≡ s .count
+  unfolding positionBytes
+  count-back =
+      unsigned-back x (positionAt (s .period) + 2) 8 (s .count)
+      (operand-at x (positionAt (s .period)) 0x13 (s .index) (toBytes 8 (s .count)) t last 8 (length-toBytes 8 (s .count)))
+      (lt-of-le-of-lt (b .count) (lit< tt))
+
+  position-due : Due x (positionAt (s .period)) 0x13 positionLength
+  unfolding positionBytes
+  position-due =
+      record { byte = byte-at x (positionAt (s .period)) 0x13 (s .index) (toBytes 8 (s .count)) t last; room = omega (arith, size) }
+
+  model-due : Due x modelAt 0x10 modelLength
+  unfolding encoded modelBytes
+  model-due = record { byte = refl; room = omega (arith, size) }
+
+  level-due : Due x levelAt 0x11 levelLength
+  unfolding encoded modelBytes levelBytes toBytes
+  level-due = record { byte = refl; room = omega (arith, size) }
+
+  period-back : periodIn x ≡ s .period
+  unfolding encoded modelBytes
+  period-back = refl
+
+  accepted-back : Accepted x
+  accepted-back =
+      record {
+        model = record {
+          due = model-due;
+          valid = rw model-back (p .model);
+          period = rw (model-back, period-back) (p .period);
+          parameters = rw (model-back, parameters-back .0, parameters-back .1, parameters-back .2, parameters-back .3, p .alpha, p .beta, p .gamma, p .phi);
+        };
+        level = record { due = level-due; values = rw (model-back, values-back .0, values-back .1, p .level, p .trend) };
+        seasons = rw period-back (λ k l. season-back k l);
+        position = rw period-back (record { due = position-due; ok = rw (index-back, count-back, p .index, p .count) });
+      }
+
+  decoded-back : length (s .seasonal) ≡ 48 → decoded x ≡ s
+  unfolding decoded
+  decoded-back l =
+      rw (period-back, model-back, parameters-back .0, parameters-back .1, parameters-back .2, parameters-back .3, values-back .0, values-back .1, seasonal-back l, index-back, count-back)
+
+-- ---- reading what was saved, whatever follows it, gives the state back
+pub read-back : (s : State) (t : List ℕ) → length (s .seasonal) ≡ 48 → check s ≡ 0
+    → (openCode (encoded s ++ t) ≡ 0) × (openOffset (encoded s ++ t) ≡ length (encoded s)) × (decoded (encoded s ++ t) ≡ s)
+read-back s t l h =
+    let p = passed s h in
+    let b = bounded s h in
+    let a = accepts (accepted-back s t p b) in
+    (ap (λ (r : Scanned). r .code) a, ap (λ (r : Scanned). r .offset) a ∙ ap sizeOf (period-back s t p b) ∙ sym (length-encoded s), decoded-back s t p b l)
+
+-- ---- the bytes of a stream from an offset on, cut in two
+head-at : (s : List ℕ) (at n : ℕ) → at < length s → take (suc n) (drop at s) ≡ getD s at 0 ∷ take n (drop (suc at) s)
+head-at s at n h = rw (drop-cons s at 0 h)
+
+cut-at : (s : List ℕ) (at n k : ℕ) → take (n + k) (drop at s) ≡ take n (drop at s) ++ take k (drop (at + n) s)
+cut-at s at n k = take-add n k (drop at s) ∙ ap (λ (l : List ℕ). take n (drop at s) ++ take k l) (drop-drop n at s)
+
+-- a command with an index byte and eight bytes more
+indexed-at : (s : List ℕ) (at first i : ℕ) → Due s at first 10 → getD s (at + 1) 0 ≡ i → take 10 (drop at s) ≡ first ∷ i ∷ take 8 (drop (at + 2) s)
+indexed-at s at first i d e =
+    let r = d .room in
+    let p : suc at ≡ at + 1 = omega arith in
+    let q : suc (at + 1) ≡ at + 2 = omega arith in
+    rw (head-at s at 9 (omega arith), p, head-at s (at + 1) 8 (omega arith), d .byte, e, q)
+
+module _ (s : List ℕ) (b : AreBytes s) (a : Accepted s) where
+  model-same : modelBytes (modelIn s) (periodIn s) (alphaIn s) (betaIn s) (gammaIn s) (phiIn s) ≡ take modelLength s
+  unfolding modelBytes
+  model-same =
+      let r = a .model .due .room in
+      rw (unsigned-again s 3 4 b (omega arith), unsigned-again s 7 4 b (omega arith), unsigned-again s 11 4 b (omega arith), unsigned-again s 15 4 b (omega arith), model-again (modelIn s) (a .model .valid), ← (a .model .due .byte))
+      (sym (rw (head-at s 0 18 (omega arith), head-at s 1 17 (omega arith), head-at s 2 16 (omega arith), cut-at s 3 4 12, cut-at s 7 4 8, cut-at s 11 4 4)))
+
+  level-same : levelBytes (levelIn s) (trendIn s) ≡ take levelLength (drop levelAt s)
+  unfolding levelBytes
+  level-same =
+      let r = a .level .due .room in
+      rw (signed-again s (levelAt + 1) b (omega arith), signed-again s (levelAt + 9) b (omega arith), head-at s levelAt 16 (omega arith), cut-at s (levelAt + 1) 8 8, a .level .due .byte)
+
+  seasons-same : (n : ℕ) → n ≤ periodIn s → seasonsBytes (cellsAt s (periodIn s)) n ≡ take (seasonLength * n) (drop (seasonAt 0) s)
+  unfolding seasonsBytes seasonBytes
+  seasons-same zero h = refl
+  seasons-same (suc n) h =
+      let c = a .seasons n h in
+      let r = c .due .room in
+      let e : seasonLength * suc n ≡ seasonLength * n + seasonLength = omega arith in
+      rw (seasons-same n (omega arith), cell-read s (periodIn s) n (period-most (a .model)) h, signed-again s (seasonAt n + 2) b (omega arith), e, cut-at s (seasonAt 0) (seasonLength * n) seasonLength, indexed-at s (seasonAt n) 0x12 n (c .due) (c .index))
+
+  position-same : positionBytes (indexIn s (periodIn s)) (countIn s (periodIn s)) ≡ take positionLength (drop (positionAt (periodIn s)) s)
+  unfolding positionBytes
+  position-same =
+      let r = a .position .due .room in
+      rw (unsigned-again s (positionAt (periodIn s) + 2) 8 b (omega arith), indexed-at s (positionAt (periodIn s)) 0x13 (indexIn s (periodIn s)) (a .position .due) refl)
+
+-- ---- saving what was read writes the same bytes
+pub saved-back : (s : List ℕ) → AreBytes s → openCode s ≡ 0 → encoded (decoded s) ≡ take (openOffset s) s
+unfolding encoded decoded
+saved-back s b h =
+    let a = accepted s h in
+    let n = seasonLength * periodIn s in
+    let e : sizeOf (periodIn s) ≡ modelLength + (levelLength + (n + positionLength)) = omega arith in
+    rw (accepted-size s h .0, e, cut-at s 0 modelLength (levelLength + (n + positionLength)), cut-at s levelAt levelLength (n + positionLength), cut-at s (seasonAt 0) n positionLength, model-same s b a, level-same s b a, seasons-same s b a (periodIn s) (le-refl (periodIn s)), position-same s b a)
+
+decoded-size : (s : List ℕ) → openCode s ≡ 0 → sizeOf (decoded s .period) ≡ openOffset s
+unfolding decoded
+decoded-size s h = sym (accepted-size s h .0)
+
+-- ---- the same in the words of the contracts
+stored : (d xs : List ℕ) (n : ℕ) → length xs ≡ n → n ≤ length d → sets d 0 xs ≡ xs ++ drop n d
+stored d xs n e h = rw (← e) (sets-eq xs d 0 (rw (zero-add (length xs), e) h) ∙ ap (λ (k : ℕ). xs ++ drop k d) (zero-add (length xs)))
+
+saves : (s : State) (d : List ℕ) → check s ≡ 0 → sizeOf (s .period) ≤ length d → saveCode s (length d) ≡ 0
+unfolding saveCode
+saves s d ok h = rw (ok, le-leb (sizeOf (s .period)) (length d) h)
+
+pub reads-saved : ReadsSaved
+unfolding save savedBytes read restOf
+reads-saved s d full ok h =
+    let z = saves s d ok h in
+    let n = length-encoded s in
+    let w = stored d (encoded s) (sizeOf (s .period)) n h in
+    let r = read-back s (drop (sizeOf (s .period)) d) full ok in
+    record {
+      saves = rw z;
+      reads = rw (z, w, r .0, r .2);
+      leaves = rw (z, w, r .1, n) (drop-at (encoded s) (drop (sizeOf (s .period)) d) (sizeOf (s .period)) n);
+    }
+
+pub saves-read : SavesRead
+unfolding save savedBytes read
+saves-read s d b h l =
+    let o = accepted-size s h in
+    let k : length (take (openOffset s) s) ≡ openOffset s = length-take-le (openOffset s) s (o .1) in
+    let z = saves (decoded s) d (accepted-passes s h) (rw (decoded-size s h) l) in
+    record { saves = rw (h, z); bytes = rw (h, z, saved-back s b h) (stored d (take (openOffset s) s) (openOffset s) k l) }
+
+-- a slice that holds one snapshot is the snapshot of its state
+pub whole : (d : List ℕ) → AreBytes d → openCode d ≡ 0 → openOffset d ≡ length d → encoded (decoded d) ≡ d
+whole d b ok e = saved-back d b ok ∙ rw e (take-all (length d) d (omega arith))

@@ -1,0 +1,135 @@
+-- `saving::in_place::forecast` meets its contract: the forecast is made of the numbers of the state which the slice holds.
+use Prim.Native.Nat.{ℕ}
+use mathlib.Core.Path.{_≡_, sym, ap, ap₂, _∙_}
+use mathlib.Core.List.{List}
+use lib.IntN.{ℤ, _+ℤ_}
+use mir.Syntax.{w64}
+use mir.ValLaws.{toZ-ofZ}
+use Rattle.integers.proofs.Difference.{back}
+use Rattle.state.specs.declared.State.{State}
+use Rattle.state.proofs.Answers.{answer-rejected, answer-accepted}
+use Rattle.forecasts.specs.Forecasts.{trendLine, forecastCode, forecastFromCode, forecastFrom, forecastOf}
+use Rattle.ets.specs.declared.Numbers.{Numbers}
+use Rattle.forecasts.proofs.ForecastLaws.{from-code, forecast-ready}
+use Rattle.snapshot.specs.Snapshots.{openCode, decoded}
+use Rattle.snapshot.proofs.Accepting.{one-snapshot}
+use Rattle.saving.specs.InPlace.{inPlaceForecastCode, inPlaceForecast}
+use Rattle.saving.specs.Facts.{aheadIn, Held, Found}
+use Rattle.saving.proofs.InPlaceSteps.{room-is, aheadValue, ahead-within, ahead-is, found, holds, unopened, opened, rejected, accepted-call}
+use borrow.Author.Needs.{needs}
+use Rattle.saving.proofs.in_place.forecast.Statement.{statement}
+use Rattle.saving.proofs.in_place.forecast.Tie as tie
+
+-- the slice, the horizon, and the call on a state
+module _ (c : tie.After-opened) where
+  abbrev d : List ℕ
+  d = c .before .before .args .snapshot .now
+
+  abbrev h : ℕ
+  h = c .before .before .args .horizon
+
+  abbrev code : State → ℕ
+  code s = forecastCode s h
+
+  abbrev value : State → ℤ
+  value s = forecastOf s h
+
+  goes-by : Found d (c .opened .result)
+  goes-by = found d (c .opened .result) (c .before .shared-slice-known .given) (c .opened .ensures)
+
+held : (c : tie.Else1) → Held (d (c .before)) (c .before .opened .result)
+held c = holds (d (c .before)) _ (goes-by (c .before)) (c .if1 .left)
+
+module _ (c : tie.After-forecast-from) where
+  abbrev a : tie.After-season-ahead
+  a = c .before .before .before
+
+  abbrev q : tie.Else1
+  q = a .before .before
+
+  abbrev o : tie.After-opened
+  o = q .before
+
+  abbrev s : State
+  s = decoded (d o)
+
+  opens : openCode (d o) ≡ 0
+  opens = one-snapshot (d o) (sym (goes-by o .code) ∙ q .if1 .left) .0
+
+  abbrev v : ℤ
+  v = aheadValue (d o) opens (h o)
+
+  forecasted : c .forecast-from .result ≡ forecastFrom (s .level) (s .phi) (s .trend) v (h o)
+  forecasted =
+      let n = o .opened .result .numbers in
+      let e = held q .numbers in
+      let t = c .before .struct-told2 .given in
+      let l = back w64 (n .level) (t .1 .1 .1 .1 .0 .1) ∙ ap (λ (n : Numbers). n .level) e in
+      let b = back w64 (n .trend) (t .1 .1 .1 .1 .1 .0 .1) ∙ ap (λ (n : Numbers). n .trend) e in
+      let w = back w64 (a .season-ahead .result) (a .season-ahead .ok) ∙ a .season-ahead .ensures ∙ ap₂ (λ (m p : ℕ). aheadIn (d o) m p (h o)) (held q .period) (held q .index) in
+      c .forecast-from .ensures ∙ same _ _ _ _ _ _ _ _ (h o) l (ap (λ (n : Numbers). n .phi) e) b w
+    where
+      same : (l l′ : ℤ) (F F′ : ℕ) (b b′ s s′ : ℤ) (h : ℕ) → l ≡ l′ → F ≡ F′ → b ≡ b′ → s ≡ s′ → forecastFrom l F b s h ≡ forecastFrom l′ F′ b′ s′ h
+      same l l′ F F′ b b′ s s′ h el ef eb es = rw (el, ef, eb, es)
+
+  code-is : forecastFromCode (s .level) (s .phi) (s .trend) v (h o) ≡ forecastCode s (h o)
+  code-is = from-code s (held q .passes) v (ahead-within (d o) opens (h o)) (h o)
+
+  value-is : forecastCode s (h o) ≡ 0 → trendLine (s .level) (s .phi) (s .trend) (h o) +ℤ v ≡ forecastOf s (h o)
+  unfolding forecastOf
+  value-is e = rw (ahead-is (d o) opens (h o) (forecast-ready 512 s (h o) e .least))
+
+  told : (n : ℕ) → forecastFromCode (s .level) (s .phi) (s .trend) v (h o) ≡ n → n ≡ inPlaceForecastCode (d o) (h o)
+  unfolding inPlaceForecastCode
+  told n z = opened (d o) _ (goes-by o) (code o) (q .if1 .left) n (sym z ∙ code-is)
+
+opened-requires : tie.Need-opened-requires
+opened-requires c κs = search needs
+
+returns : tie.Need-returns
+unfolding inPlaceForecastCode inPlaceForecast
+returns c =
+    let o = c .before in
+    let e = unopened (d o) _ (goes-by o) (code o) (c .if1 .taken) in
+    (e, rejected (code o) (λ s. s) (value o) (d o) _ _ e (c .if1 .taken) .1)
+
+season-ahead-requires : tie.Need-season-ahead-requires
+season-ahead-requires c κs = room-is (d (c .before .before)) _ (held (c .before))
+
+forecast-from-requires : tie.Need-forecast-from-requires
+forecast-from-requires c κs = search needs
+
+enum-known-k : tie.Need-enum-known-k
+enum-known-k c = search needs
+
+enum-known-v : tie.Need-enum-known-v
+enum-known-v c = search needs
+
+returns-2 : tie.Need-returns-2
+unfolding inPlaceForecastCode inPlaceForecast forecastFrom
+returns-2 c =
+    let f = c .before .before .before in
+    let r = answer-rejected _ _ (c .before .k .given .0 .0) (sym (forecasted f) ∙ c .before .k .given .1) in
+    let e = told f _ (r .0) in
+    (e, rejected (code (o f)) (λ s. s) (value (o f)) (d (o f)) _ _ e (λ n. r .1 (r .0 ∙ n)) .1)
+
+returns-3 : tie.Need-returns-3
+unfolding inPlaceForecastCode inPlaceForecast forecastFrom
+returns-3 c =
+    let f = c .before .before .before in
+    let r = answer-accepted _ _ (c .before .v .given .0 .0) (sym (forecasted f) ∙ c .before .v .given .1) in
+    let e = told f 0 (r .0) in
+    (e, toZ-ofZ w64 (c .before .v .given .0 .0) (search needs) ∙ sym (r .1) ∙ value-is f (sym (code-is f) ∙ r .0) ∙ accepted-call (code (o f)) (λ s. s) (value (o f)) (d (o f)) _ e .1)
+
+pub forecast-spec : {M : Type 1} → statement M
+forecast-spec =
+    tie.close
+    (tie.spec
+    opened-requires
+    returns
+    season-ahead-requires
+    forecast-from-requires
+    enum-known-k
+    enum-known-v
+    returns-2
+    returns-3)

@@ -1,0 +1,59 @@
+-- `saving::writing::write_snapshot` meets its contract: the commands are written one after the other.
+use Prim.Native.Nat.{ℕ, _+_}
+use mathlib.Core.Path.{ap}
+use mathlib.Core.List.{_++_}
+use mir.Syntax.{w64}
+use Rattle.integers.proofs.Difference.{back}
+use Rattle.snapshot.specs.Layout.{modelAt, levelAt, seasonAt}
+use Rattle.saving.specs.Encoding.{modelBytes, levelBytes, seasonsBytes, positionBytes, encoded}
+use Rattle.saving.proofs.ByteLaws.{follow}
+use Rattle.saving.proofs.RoundTrip.{length-model, length-level, length-seasons}
+use borrow.Author.Needs.{needs}
+use Rattle.saving.proofs.writing.write_snapshot.Statement.{statement}
+use Rattle.saving.proofs.writing.write_snapshot.Tie as tie
+
+write-model-requires : tie.Need-write-model-requires
+write-model-requires c κs = search needs
+
+write-level-requires : tie.Need-write-level-requires
+write-level-requires c κs = search needs
+
+write-seasons-requires : tie.Need-write-seasons-requires
+write-seasons-requires c κs = search needs
+
+write-position-requires : tie.Need-write-position-requires
+write-position-requires c κs = search needs
+
+same-length : tie.Need-same-length
+same-length c = search needs
+
+returns : tie.Need-returns
+unfolding encoded
+returns c =
+    let p = c .before .before in
+    let x = p .before .before .before .before in
+    let l = x .before .before .before .before .before .before in
+    let m = l .before .before .before .before .before .before in
+    let a = m .before .before .before .args in
+    let s = a .t2 in
+    let t = l .before .struct-told2 .given in
+    let L = levelBytes (s .level) (s .trend) in
+    let X = seasonsBytes (s .seasonal) (s .period) in
+    let Y = positionBytes (s .index) (s .count) in
+    let end = p .write-position .last .0 in
+    let v = rw (back w64 (s .level) (t .1 .1 .1 .1 .1 .1 .0 .1), back w64 (s .trend) (t .1 .1 .1 .1 .1 .1 .1 .0 .1)) at (l .write-level .ensures) in
+    follow (a .d .now) modelAt (modelBytes (s .model) (s .period) (s .alpha) (s .beta) (s .gamma) (s .phi)) (L ++ (X ++ Y)) (m .write-model .last .0) end levelAt (m .write-model .ensures)
+    (follow (m .write-model .last .0) levelAt L (X ++ Y) (l .write-level .last .0) end (seasonAt 0) v
+    (follow (l .write-level .last .0) (seasonAt 0) X Y (x .write-seasons .last .0) end (seasonAt (s .period)) (x .write-seasons .ensures) (p .write-position .ensures) (ap (λ (n : ℕ). seasonAt 0 + n) (length-seasons (s .seasonal) (s .period))))
+    (rw (length-level (s .level) (s .trend)))) (rw (length-model (s .model) (s .period) (s .alpha) (s .beta) (s .gamma) (s .phi)))
+
+pub write-snapshot-spec : {M : Type 1} → statement M
+write-snapshot-spec =
+    tie.close
+    (tie.spec
+    write-model-requires
+    write-level-requires
+    write-seasons-requires
+    write-position-requires
+    same-length
+    returns)

@@ -1,0 +1,5 @@
+pub mod Encoding
+pub mod Saving
+pub mod InPlace
+pub mod Facts
+pub mod Promises

@@ -1,0 +1,29 @@
+-- Document 01, "Commands" and the refusal 12 of a snapshot (the paper's group): saving the one of a state.
+use Prim.Native.Nat.{ℕ}
+use mathlib.Core.List.{List}
+use lib.Dec.{leb}
+use lib.ListN.{length}
+use lib.Seq.{sets}
+use Rattle.state.specs.Rejections.{unless, _then_, outcome, short-buffer, accepting}
+use Rattle.state.specs.States.{check}
+use Rattle.state.specs.declared.State.{State}
+use Rattle.state.specs.declared.Outcome.{Outcome}
+use Rattle.snapshot.specs.Answers.{lengthAnswer}
+use Rattle.snapshot.specs.Layout.{modelAt, sizeOf}
+use Rattle.snapshot.specs.declared.Length.{Length}
+use Rattle.saving.specs.Encoding.{encoded}
+
+-- the bytes needed are told before anything is written
+unfoldable pub bytesNeeded : State → Length
+bytesNeeded s = lengthAnswer (check s) (sizeOf (s .period))
+
+-- what rejects saving into so much room, or 0
+unfoldable pub saveCode : State → ℕ → ℕ
+saveCode s room = check s then unless (leb (sizeOf (s .period)) room) short-buffer
+
+-- the call: its answer, and the bytes that the buffer then holds
+unfoldable pub save : State → ℕ → Outcome
+save s room = outcome (saveCode s room)
+
+unfoldable pub savedBytes : State → List ℕ → List ℕ
+savedBytes s buffer = accepting (saveCode s (length buffer)) (sets buffer modelAt (encoded s)) (λ (n : ℕ). buffer)

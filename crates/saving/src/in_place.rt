@@ -1,0 +1,123 @@
+// The calls on a lent slice that holds one snapshot: document 01, "Commands".
+// Each returns the rejection's number or 0; a rejected call leaves the slice and the lent number as found.
+// The snapshot is checked once. A step reads the numbers that it needs and writes those that it moves: no state is copied.
+use super::writing::write_level;
+use super::writing::write_position;
+use super::writing::write_season;
+use ets::Update;
+use ets::next_index;
+use ets::updates::update;
+use forecasts::forecast_from;
+use snapshot::slices::opened;
+use snapshot::slices::season_value;
+use state::Answer;
+use state::COUNT_FULL;
+use state::MAX_COUNT;
+ghost use mathlib.Core.Path.{_≡_};
+ghost use Prim.Native.Nat.{_+_, _<_};
+ghost use Rattle.state.specs.Fixed.{maxCount};
+ghost use Rattle.snapshot.specs.Facts.{Room};
+ghost use Rattle.saving.specs.InPlace.{inPlaceStepCode, inPlaceStepBytes, inPlaceResidual, inPlaceMissingCode, inPlaceMissingBytes, inPlaceForecastCode, inPlaceForecast};
+ghost use Rattle.saving.specs.Facts.{aheadIn, movedOn, seasonPut, stored};
+
+// The seasonal index moves on and the count rises.
+fn move_on(d: &mut [u8], m: u8, p: u8, count: u64)
+    requires { ⌜ Room (now d) m p × (count < maxCount) ⌝ }
+    ensures { λ _. ⌜ now (d .exit) ≡ movedOn (now (d .entry)) m p count ⌝ }
+{
+    write_position(d, m, next_index(m, p), count + 1);
+}
+
+// The season value, in its place where there is one.
+fn put_season(d: &mut [u8], m: u8, p: u8, v: i64)
+    requires { ⌜ Room (now d) m p ⌝ }
+    ensures { λ _. ⌜ now (d .exit) ≡ seasonPut (now (d .entry)) m p v ⌝ }
+{
+    if m != 0 {
+        write_season(d, p, v);
+    }
+}
+
+// The numbers that a step moved, in their places.
+fn store(d: &mut [u8], m: u8, p: u8, count: u64, u: Update)
+    requires { ⌜ Room (now d) m p × (count < maxCount) ⌝ }
+    ensures { λ _. ⌜ now (d .exit) ≡ stored (now (d .entry)) m p count u ⌝ }
+{
+    write_level(d, u.level, u.trend);
+    put_season(d, m, p, u.season);
+    move_on(d, m, p, count);
+}
+
+// A reading: an accepted step rewrites the snapshot and stores the residual.
+pub fn step(snapshot: &mut [u8], reading: i32, residual: &mut i64) -> u8
+    ensures code { λ r. ⌜ r ≡ inPlaceStepCode (now (snapshot .entry)) reading ⌝ }
+    ensures bytes { λ _. ⌜ now (snapshot .exit) ≡ inPlaceStepBytes (now (snapshot .entry)) reading ⌝ }
+    ensures number { λ _. ⌜ now (residual .exit) ≡ inPlaceResidual (now (snapshot .entry)) reading (now (residual .entry)) ⌝ }
+{
+    let x = opened(snapshot);
+    let code = x.code;
+    if code != 0 {
+        return code;
+    }
+    let n = x.numbers;
+    let u = update(n, reading);
+    let rejection = u.code;
+    if rejection != 0 {
+        return rejection;
+    }
+    let e = u.residual;
+    *residual = e;
+    store(snapshot, x.period, x.index, n.count, u);
+    0
+}
+
+// A missing reading: an accepted one rewrites the snapshot.
+pub fn missing(snapshot: &mut [u8]) -> u8
+    ensures code { λ r. ⌜ r ≡ inPlaceMissingCode (now (snapshot .entry)) ⌝ }
+    ensures bytes { λ _. ⌜ now (snapshot .exit) ≡ inPlaceMissingBytes (now (snapshot .entry)) ⌝ }
+{
+    let x = opened(snapshot);
+    let code = x.code;
+    if code != 0 {
+        return code;
+    }
+    let n = x.numbers;
+    if n.count == MAX_COUNT {
+        return COUNT_FULL;
+    }
+    move_on(snapshot, x.period, x.index, n.count);
+    0
+}
+
+// The season value of a horizon, 0 without season.
+fn season_ahead(s: &[u8], m: u8, p: u8, h: u32) -> i64
+    requires { ⌜ Room (now s) m p ⌝ }
+    ensures { λ r. ⌜ r ≡ aheadIn (now (s .entry)) m p h ⌝ }
+{
+    if (m == 0) | (h == 0) {
+        return 0;
+    }
+    let ahead = (p as usize) + (h as usize) - 1;
+    season_value(s, (ahead % (m as usize)) as u8)
+}
+
+// The forecast for one horizon.
+pub fn forecast(snapshot: &[u8], horizon: u32, value: &mut i64) -> u8
+    ensures code { λ r. ⌜ r ≡ inPlaceForecastCode (now (snapshot .entry)) horizon ⌝ }
+    ensures number { λ _. ⌜ now (value .exit) ≡ inPlaceForecast (now (snapshot .entry)) horizon (now (value .entry)) ⌝ }
+{
+    let x = opened(snapshot);
+    let code = x.code;
+    if code != 0 {
+        return code;
+    }
+    let n = x.numbers;
+    let season = season_ahead(snapshot, x.period, x.index, horizon);
+    match forecast_from(n.level, n.phi, n.trend, season, horizon) {
+        Answer::Rejected(k) => k,
+        Answer::Accepted(v) => {
+            *value = v;
+            0
+        }
+    }
+}

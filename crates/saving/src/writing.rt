@@ -1,0 +1,100 @@
+// Writing the commands of a snapshot. Each function needs the room that its caller has made sure of.
+use super::bytes::write_byte;
+use super::bytes::write_i64;
+use super::bytes::write_le;
+use models::model_byte;
+use snapshot::layout::ALPHA_AT;
+use snapshot::layout::BETA_AT;
+use snapshot::layout::GAMMA_AT;
+use snapshot::layout::LEVEL_AT;
+use snapshot::layout::LEVEL_VALUE_AT;
+use snapshot::layout::MODEL_AT;
+use snapshot::layout::MODEL_BYTE_AT;
+use snapshot::layout::PERIOD_AT;
+use snapshot::layout::PHI_AT;
+use snapshot::layout::TREND_VALUE_AT;
+use snapshot::layout::season_at;
+use state::State;
+ghost use mathlib.Core.Path.{_≡_};
+ghost use Prim.Native.Nat.{_+_, _≤_};
+ghost use lib.ListN.{length};
+ghost use lib.Seq.{sets};
+ghost use Rattle.snapshot.specs.CommandTable.{modelLength, levelLength, seasonLength};
+ghost use Rattle.snapshot.specs.Layout.{modelAt, levelAt, seasonAt, sizeOf};
+ghost use Rattle.saving.specs.Encoding.{parameterBytes, modelBytes, levelBytes, seasonBytes, seasonsBytes, positionBytes, encoded};
+
+fn write_parameters(d: &mut [u8], alpha: u32, beta: u32, gamma: u32, phi: u32)
+    requires { ⌜ modelLength ≤ length (now d) ⌝ }
+    ensures { λ _. ⌜ now (d .exit) ≡ sets (now (d .entry)) (modelAt + 3) (parameterBytes alpha beta gamma phi) ⌝ }
+{
+    write_le(d, ALPHA_AT, 4, alpha as u64);
+    write_le(d, BETA_AT, 4, beta as u64);
+    write_le(d, GAMMA_AT, 4, gamma as u64);
+    write_le(d, PHI_AT, 4, phi as u64);
+}
+
+fn write_model(d: &mut [u8], model: u8, period: u8, alpha: u32, beta: u32, gamma: u32, phi: u32)
+    requires { ⌜ modelLength ≤ length (now d) ⌝ }
+    ensures { λ _. ⌜ now (d .exit) ≡ sets (now (d .entry)) modelAt (modelBytes model period alpha beta gamma phi) ⌝ }
+{
+    let byte = model_byte(model);
+    write_byte(d, MODEL_AT, 0x10);
+    write_byte(d, MODEL_BYTE_AT, byte);
+    write_byte(d, PERIOD_AT, period);
+    write_parameters(d, alpha, beta, gamma, phi);
+}
+
+pub fn write_level(d: &mut [u8], level: i64, trend: i64)
+    requires { ⌜ levelAt + levelLength ≤ length (now d) ⌝ }
+    ensures { λ _. ⌜ now (d .exit) ≡ sets (now (d .entry)) levelAt (levelBytes level trend) ⌝ }
+{
+    write_byte(d, LEVEL_AT, 0x11);
+    write_i64(d, LEVEL_VALUE_AT, level);
+    write_i64(d, TREND_VALUE_AT, trend);
+}
+
+// The command 12 of index k.
+pub fn write_season(d: &mut [u8], k: u8, v: i64)
+    requires { ⌜ seasonAt k + seasonLength ≤ length (now d) ⌝ }
+    ensures { λ _. ⌜ now (d .exit) ≡ sets (now (d .entry)) (seasonAt k) (seasonBytes k v) ⌝ }
+{
+    let at = season_at(k);
+    write_byte(d, at, 0x12);
+    write_byte(d, at + 1, k);
+    write_i64(d, at + 2, v);
+}
+
+// The commands 12 for the places 0 to m − 1 rising.
+fn write_seasons(d: &mut [u8], m: u8, cells: &[i64; 48])
+    requires { ⌜ (m ≤ 48) × (seasonAt m ≤ length (now d)) ⌝ }
+    ensures { λ _. ⌜ now (d .exit) ≡ sets (now (d .entry)) (seasonAt 0) (seasonsBytes (now (cells .entry)) m) ⌝ }
+{
+    let mut k = 0;
+    while k < m {
+        let v = cells[k as usize];
+        write_season(d, k, v);
+        k += 1;
+    }
+}
+
+// The command 13, after m places.
+pub fn write_position(d: &mut [u8], m: u8, index: u8, count: u64)
+    requires { ⌜ sizeOf m ≤ length (now d) ⌝ }
+    ensures { λ _. ⌜ now (d .exit) ≡ sets (now (d .entry)) (seasonAt m) (positionBytes index count) ⌝ }
+{
+    let at = season_at(m);
+    write_byte(d, at, 0x13);
+    write_byte(d, at + 1, index);
+    write_le(d, at + 2, 8, count);
+}
+
+// The snapshot of a state.
+pub fn write_snapshot(d: &mut [u8], s: State)
+    requires { ⌜ (s .period ≤ 48) × (sizeOf (s .period) ≤ length (now d)) ⌝ }
+    ensures { λ _. ⌜ now (d .exit) ≡ sets (now (d .entry)) modelAt (encoded s) ⌝ }
+{
+    write_model(d, s.model, s.period, s.alpha, s.beta, s.gamma, s.phi);
+    write_level(d, s.level, s.trend);
+    write_seasons(d, s.period, &s.seasonal);
+    write_position(d, s.period, s.index, s.count);
+}

@@ -1,0 +1,30 @@
+-- `snapshot::slices::opened` meets its contract.
+use mathlib.Core.Path.{sym, _∙_}
+use borrow.Author.Tests.{eq-eqb, ne-eqb}
+use Rattle.snapshot.specs.Slices.{openedIn}
+use Rattle.snapshot.proofs.Accepting.{accepted-room, one-snapshot}
+use borrow.Author.Needs.{needs}
+use Rattle.snapshot.proofs.slices.opened.Statement.{statement}
+use Rattle.snapshot.proofs.slices.opened.Tie as tie
+
+slice-code-requires : tie.Need-slice-code-requires
+slice-code-requires c κs = search needs
+
+unopened-requires : tie.Need-unopened-requires
+unopened-requires c κs = search needs
+
+returns : tie.Need-returns
+unfolding openedIn
+returns c = rw (c .unopened .ensures, ← (c .before .before .slice-code .ensures), ne-eqb _ _ (c .before .if1 .taken))
+
+checked-at-requires : tie.Need-checked-at-requires
+checked-at-requires c κs = accepted-room _ (one-snapshot _ (sym (c .before .slice-code .ensures) ∙ c .if1 .left) .0)
+
+returns-2 : tie.Need-returns-2
+unfolding openedIn
+returns-2 c = rw (c .checked-at .ensures, ← (c .before .before .slice-code .ensures), eq-eqb _ _ (c .before .if1 .left))
+
+pub opened-spec : {M : Type 1} → statement M
+opened-spec =
+    tie.close
+    (tie.spec slice-code-requires unopened-requires returns checked-at-requires returns-2)
