@@ -11,7 +11,6 @@ use borrow.Author.Tests.{ltb-true, leb-true, eqb-true, eq-eqb, ne-eqb, le-ltb, n
 use Rattle.integers.specs.Bounds.{Within}
 use Rattle.integers.proofs.Difference.{ints}
 use Rattle.integers.proofs.Bounds.{within-zero}
-use Rattle.state.specs.Rejections.{_then_}
 use Rattle.state.specs.Fixed.{within, inRange, isReading, isZero, maxCount}
 use Rattle.models.specs.Models.{trendOf, hasTrend, hasSeason, validModel, periodOk, gainOk, dampingOk}
 use Rattle.state.specs.States.{trendOk, cellOk, seasonalOk, indexOk, countOk, check, noState}

@@ -24,24 +24,9 @@ done c =
     let i = c .before .before .before in
     rw (state-is _ _ (i .before .before .read .ensures) (opens i)) at (c .batch .ensures .0)
 
-read-requires : tie.Need-read-requires
-read-requires c κs = search needs
-
-code-of-requires : tie.Need-code-of-requires
-code-of-requires c κs = search needs
-
 returns : tie.Need-returns
 unfolding batchCode batchTaken batchCells
 returns c = rw (← (code (c .before)), ne-eqb _ _ (c .if1 .taken)) (refl, (refl, refl))
-
-batch-requires : tie.Need-batch-requires
-batch-requires c κs = search needs
-
-code-of-requires-2 : tie.Need-code-of-requires-2
-code-of-requires-2 c κs = search needs
-
-same-length : tie.Need-same-length
-same-length c = search needs
 
 returns-2 : tie.Need-returns-2
 unfolding batchCode batchTaken batchCells
@@ -56,10 +41,10 @@ pub bench-batch-spec : {M : Type 1} → statement M
 bench-batch-spec =
     tie.close
     (tie.spec
-    read-requires
-    code-of-requires
+    (λ c κs. search needs)
+    (λ c κs. search needs)
     returns
-    batch-requires
-    code-of-requires-2
-    same-length
+    (λ c κs. search needs)
+    (λ c κs. search needs)
+    (λ c. search needs)
     returns-2)

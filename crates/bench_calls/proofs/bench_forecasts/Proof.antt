@@ -17,24 +17,9 @@ code c = c .code-of .ensures ∙ code-is _ _ (c .before .read .ensures)
 opens : (c : tie.Else1) → inPlaceCode (c .before .before .before .before .args .snapshot .now) ≡ 0
 opens c = sym (code (c .before)) ∙ c .if1 .left
 
-read-requires : tie.Need-read-requires
-read-requires c κs = search needs
-
-code-of-requires : tie.Need-code-of-requires
-code-of-requires c κs = search needs
-
 returns : tie.Need-returns
 unfolding allCode allCells
 returns c = rw (← (code (c .before)), ne-eqb _ _ (c .if1 .taken)) (refl, refl)
-
-forecasts-requires : tie.Need-forecasts-requires
-forecasts-requires c κs = search needs
-
-code-of-requires-2 : tie.Need-code-of-requires-2
-code-of-requires-2 c κs = search needs
-
-same-length : tie.Need-same-length
-same-length c = search needs
 
 returns-2 : tie.Need-returns-2
 unfolding allCode allCells forecastsTo
@@ -49,10 +34,10 @@ pub bench-forecasts-spec : {M : Type 1} → statement M
 bench-forecasts-spec =
     tie.close
     (tie.spec
-    read-requires
-    code-of-requires
+    (λ c κs. search needs)
+    (λ c κs. search needs)
     returns
-    forecasts-requires
-    code-of-requires-2
-    same-length
+    (λ c κs. search needs)
+    (λ c κs. search needs)
+    (λ c. search needs)
     returns-2)

@@ -21,24 +21,9 @@ found c =
     let i = c .before .before in
     rw (state-is _ _ (i .before .before .read .ensures) (opens i)) at (c .weight .ensures)
 
-read-requires : tie.Need-read-requires
-read-requires c κs = search needs
-
-code-of-requires : tie.Need-code-of-requires
-code-of-requires c κs = search needs
-
 returns : tie.Need-returns
 unfolding inPlaceWeightCode inPlaceWeight
 returns c = rw (← (code (c .before)), ne-eqb _ _ (c .if1 .taken)) (refl, refl)
-
-weight-requires : tie.Need-weight-requires
-weight-requires c κs = search needs
-
-enum-known-w : tie.Need-enum-known-w
-enum-known-w c = search needs
-
-enum-known-n : tie.Need-enum-known-n
-enum-known-n c = search needs
 
 returns-2 : tie.Need-returns-2
 unfolding inPlaceWeightCode inPlaceWeight
@@ -56,11 +41,11 @@ pub bench-weight-spec : {M : Type 1} → statement M
 bench-weight-spec =
     tie.close
     (tie.spec
-    read-requires
-    code-of-requires
+    (λ c κs. search needs)
+    (λ c κs. search needs)
     returns
-    weight-requires
-    enum-known-w
-    enum-known-n
+    (λ c κs. search needs)
+    (λ c. search needs)
+    (λ c. search needs)
     returns-2
     returns-3)

@@ -4,16 +4,10 @@ use borrow.Author.Needs.{needs}
 use Rattle.c_api.proofs.forecaster_step.Statement.{statement}
 use Rattle.c_api.proofs.forecaster_step.Tie as tie
 
-step-requires : tie.Need-step-requires
-step-requires c κs = search needs
-
-same-length : tie.Need-same-length
-same-length c = search needs
-
 returns : tie.Need-returns
 returns c =
     let s = c .before .before in
     rw (toZ-ofZ (s .before .before .before .before .fits .reading)) at (s .step .ensures)
 
 pub forecaster-step-spec : {M : Type 1} → statement M
-forecaster-step-spec = tie.close (tie.spec step-requires same-length returns)
+forecaster-step-spec = tie.close (tie.spec (λ c κs. search needs) (λ c. search needs) returns)

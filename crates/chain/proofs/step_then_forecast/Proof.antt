@@ -19,12 +19,6 @@ use Rattle.chain.proofs.step_then_forecast.Tie as tie
 chained : (s : State) (y : ℤ) (h : ℕ) (t : Stepped) (r : Answer) → t ≡ step s y → r ≡ forecast (t .state) h → (r ≡ forecast (step s y .state) h) × ForecastWithin s (Reading y) h (answerCode r) (answerValue r)
 chained s y h t r e f = rw (f, e) ((λ i. forecast (step s y .state) h), directly s y h)
 
-step-requires : tie.Need-step-requires
-step-requires c κs = search needs
-
-forecast-requires : tie.Need-forecast-requires
-forecast-requires c κs = search needs
-
 returns : tie.Need-returns
 returns c =
     let a = c .before .before .before .args in
@@ -32,4 +26,4 @@ returns c =
     chained (a .s) (a .y) (a .h) (c .before .before .step .result) (c .forecast .result) (rw y-is at (c .before .before .step .ensures)) (c .forecast .ensures)
 
 pub step-then-forecast-spec : {M : Type 1} → statement M
-step-then-forecast-spec = tie.close (tie.spec step-requires forecast-requires returns)
+step-then-forecast-spec = tie.close (tie.spec (λ c κs. search needs) (λ c κs. search needs) returns)

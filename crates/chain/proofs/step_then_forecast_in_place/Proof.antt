@@ -27,15 +27,6 @@ module _ (d d′ : List ℕ) (y : ℤ) (h r : ℕ) (old v : ℤ) (e : d′ ≡ i
   limit : AreBytes d → inPlaceCode d ≡ 0 → ForecastWithin (decoded d) (InPlaceReading (followed []) y) h r v
   limit b z = rw (code, value) (in-place d (λ i. b i .fits) z y h old)
 
-forecaster-step-requires : tie.Need-forecaster-step-requires
-forecaster-step-requires c κs = search needs
-
-forecaster-forecast-requires : tie.Need-forecaster-forecast-requires
-forecaster-forecast-requires c κs = search needs
-
-same-length : tie.Need-same-length
-same-length c = search needs
-
 returns : tie.Need-returns
 returns c =
     let b = c .before .before .before .before .before in
@@ -63,4 +54,4 @@ returns c =
 
 pub step-then-forecast-in-place-spec : {M : Type 1} → statement M
 step-then-forecast-in-place-spec =
-    tie.close (tie.spec forecaster-step-requires forecaster-forecast-requires same-length returns)
+    tie.close (tie.spec (λ c κs. search needs) (λ c κs. search needs) (λ c. search needs) returns)

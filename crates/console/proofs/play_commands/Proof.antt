@@ -19,26 +19,8 @@ Inv-loop s x₀ whole₀ x whole = lastReply (answersFrom s x) ≡ lastReply (an
 abbrev μ-loop : tie.MeasureT-loop
 μ-loop s x₀ whole₀ x whole = length s - x .at
 
-start-requires : tie.Need-start-requires Inv-loop μ-loop
-start-requires c κs = search needs
-
 loop-holds : tie.Need-loop-holds Inv-loop μ-loop
 loop-holds c = ap (λ (x : Session). lastReply (answersFrom (c .before .before .args .s .now) x)) (c .start .ensures)
-
-slice-aggregate-write-next : tie.Need-slice-aggregate-write-next Inv-loop μ-loop
-slice-aggregate-write-next c = search needs
-
-write-next-requires : tie.Need-write-next-requires Inv-loop μ-loop
-write-next-requires c κs = search needs
-
-slice-aggregate-show : tie.Need-slice-aggregate-show Inv-loop μ-loop
-slice-aggregate-show c = search needs
-
-show-requires : tie.Need-show-requires Inv-loop μ-loop
-show-requires c κs = search needs
-
-is-last-requires : tie.Need-is-last-requires Inv-loop μ-loop
-is-last-requires c κs = search needs
 
 -- the command that was answered, and whether it was the last
 performs : (c : tie.After-write-next Inv-loop μ-loop) → c .write-next .result .performed ≡ next (c .before .before .before .before .before .args .s .now) (c .before .before .loop .x)
@@ -66,13 +48,13 @@ play-commands-spec =
     (tie.spec
     Inv-loop
     μ-loop
-    start-requires
+    (λ c κs. search needs)
     loop-holds
-    slice-aggregate-write-next
-    write-next-requires
-    slice-aggregate-show
-    show-requires
-    is-last-requires
+    (λ c. search needs)
+    (λ c κs. search needs)
+    (λ c. search needs)
+    (λ c κs. search needs)
+    (λ c κs. search needs)
     returns
     loop-less
     loop-again)

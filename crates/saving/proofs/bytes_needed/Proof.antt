@@ -8,15 +8,9 @@ use borrow.Author.Needs.{needs}
 use Rattle.saving.proofs.bytes_needed.Statement.{statement}
 use Rattle.saving.proofs.bytes_needed.Tie as tie
 
-check-requires : tie.Need-check-requires
-check-requires c κs = search needs
-
 returns : tie.Need-returns
 unfolding bytesNeeded
 returns c = rw (← (c .before .check .ensures), ne-eqb _ _ (c .if1 .taken))
-
-cast-size-of : tie.Need-cast-size-of
-cast-size-of c = search needs
 
 size-of-requires : tie.Need-size-of-requires
 size-of-requires c κs = omega (arith, bounded _ (sym (c .before .before .check .ensures) ∙ c .before .if1 .left) .period)
@@ -27,4 +21,4 @@ returns-2 c = rw (← (c .before .before .before .check .ensures), eq-eqb _ _ (c
 
 pub bytes-needed-spec : {M : Type 1} → statement M
 bytes-needed-spec =
-    tie.close (tie.spec check-requires returns cast-size-of size-of-requires returns-2)
+    tie.close (tie.spec (λ c κs. search needs) returns (λ c. search needs) size-of-requires returns-2)

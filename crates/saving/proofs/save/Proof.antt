@@ -10,17 +10,11 @@ use borrow.Author.Needs.{needs}
 use Rattle.saving.proofs.save.Statement.{statement}
 use Rattle.saving.proofs.save.Tie as tie
 
-check-requires : tie.Need-check-requires
-check-requires c κs = search needs
-
 returns : tie.Need-returns
 unfolding save saveCode savedBytes
 returns c =
     let n = ne-eqb _ _ (c .if1 .taken) in
     rw (← (c .before .check .ensures), n, n) (refl, refl)
-
-cast-size-of : tie.Need-cast-size-of
-cast-size-of c = search needs
 
 size-of-requires : tie.Need-size-of-requires
 size-of-requires c κs = omega (arith, bounded _ (sym (c .before .before .check .ensures) ∙ c .before .if1 .left) .period)
@@ -40,9 +34,6 @@ write-snapshot-requires c κs =
     let k = c .before .before .before .before in
     (bounded _ (sym (k .before .check .ensures) ∙ k .if1 .left) .period, omega (arith, c .before .before .size-of .ensures))
 
-same-length : tie.Need-same-length
-same-length c = search needs
-
 returns-3 : tie.Need-returns-3
 unfolding save saveCode savedBytes
 returns-3 c =
@@ -58,11 +49,11 @@ pub save-spec : {M : Type 1} → statement M
 save-spec =
     tie.close
     (tie.spec
-    check-requires
+    (λ c κs. search needs)
     returns
-    cast-size-of
+    (λ c. search needs)
     size-of-requires
     returns-2
     write-snapshot-requires
-    same-length
+    (λ c. search needs)
     returns-3)

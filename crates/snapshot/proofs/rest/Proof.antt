@@ -9,17 +9,11 @@ use borrow.Author.Needs.{needs}
 use Rattle.snapshot.proofs.rest.Statement.{statement}
 use Rattle.snapshot.proofs.rest.Tie as tie
 
-scan-requires : tie.Need-scan-requires
-scan-requires c κs = search needs
-
 sub-result : tie.Need-sub-result
 sub-result c = omega (arith, ap (λ (r : Scanned). r .offset) (c .scan .ensures), offsets (c .before .before .args .stream .now) .within)
 
 part-result-start : tie.Need-part-result-start
 part-result-start c = sub-result c
-
-part-result-end : tie.Need-part-result-end
-part-result-end c = search needs
 
 returns : tie.Need-returns
 unfolding restOf
@@ -29,4 +23,4 @@ returns c =
     (rw (← (ap (λ (r : Scanned). r .offset) e)) (rest s (c .before .scan .result .offset)), ap (λ (r : Scanned). r .code) e)
 
 pub rest-spec : {M : Type 1} → statement M
-rest-spec = tie.close (tie.spec scan-requires sub-result part-result-start part-result-end returns)
+rest-spec = tie.close (tie.spec (λ c κs. search needs) sub-result part-result-start (λ c. search needs) returns)

@@ -14,26 +14,8 @@ Inv-loop s end₀ end = end ≤ length s
 abbrev μ-loop : tie.MeasureT-loop
 μ-loop s end₀ end = length s - end
 
-loop-holds : tie.Need-loop-holds Inv-loop μ-loop
-loop-holds c = search needs
-
 slice-aggregate-play : tie.Need-slice-aggregate-play Inv-loop μ-loop
 slice-aggregate-play c = sym (length-take-le _ _ (omega arith))
-
-play-requires : tie.Need-play-requires Inv-loop μ-loop
-play-requires c κs = search needs
-
-add-end : tie.Need-add-end Inv-loop μ-loop
-add-end c = search needs
-
-loop-less : tie.Need-loop-less Inv-loop μ-loop
-loop-less c = search needs
-
-loop-again : tie.Need-loop-again Inv-loop μ-loop
-loop-again c = search needs
-
-returns : tie.Need-returns Inv-loop μ-loop
-returns c = search needs
 
 pub play-cut-spec : {M : Type 1} → statement M
 play-cut-spec =
@@ -41,10 +23,10 @@ play-cut-spec =
     (tie.spec
     Inv-loop
     μ-loop
-    loop-holds
+    (λ c. search needs)
     slice-aggregate-play
-    play-requires
-    add-end
-    loop-less
-    loop-again
-    returns)
+    (λ c κs. search needs)
+    (λ c. search needs)
+    (λ c. search needs)
+    (λ c. search needs)
+    (λ c. search needs))

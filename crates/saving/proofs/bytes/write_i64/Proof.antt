@@ -10,15 +10,6 @@ use Rattle.saving.specs.Encoding.{toBytes}
 use Rattle.saving.proofs.bytes.write_i64.Statement.{statement}
 use Rattle.saving.proofs.bytes.write_i64.Tie as tie
 
-of-i64-requires : tie.Need-of-i64-requires
-of-i64-requires c κs = search needs
-
-write-le-requires : tie.Need-write-le-requires
-write-le-requires c κs = search needs
-
-same-length : tie.Need-same-length
-same-length c = search needs
-
 returns : tie.Need-returns
 returns c =
     let s = c .before .before .before .before .before .before in
@@ -26,4 +17,4 @@ returns c =
     ∙ ap (λ (n : ℕ). sets (now (s .args .d)) (s .args .at) (toBytes 8 n)) (c .before .before .before .of-i64 .ensures ∙ ap (ofZ w64) (toZ-ofZ w64 (s .args .z) (s .fits .z)))
 
 pub write-i64-spec : {M : Type 1} → statement M
-write-i64-spec = tie.close (tie.spec of-i64-requires write-le-requires same-length returns)
+write-i64-spec = tie.close (tie.spec (λ c κs. search needs) (λ c κs. search needs) (λ c. search needs) returns)

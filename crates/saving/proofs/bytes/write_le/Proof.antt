@@ -38,9 +38,6 @@ loop-less c = omega arith
 loop-again : tie.Need-loop-again Inv-loop μ-loop
 loop-again c = (simp length-set (omega arith), (omega arith, toBytes-more _ _ _ _ _ (c .loop-test .taken) ∙ c .before .loop .inv .1 .1))
 
-same-length : tie.Need-same-length Inv-loop μ-loop
-same-length c = search needs
-
 returns : tie.Need-returns Inv-loop μ-loop
 unfolding toBytes
 returns c =
@@ -60,5 +57,5 @@ write-le-spec =
     add-i
     loop-less
     loop-again
-    same-length
+    (λ c. search needs)
     returns)

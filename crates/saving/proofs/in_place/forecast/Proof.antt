@@ -83,9 +83,6 @@ module _ (c : tie.After-forecast-from) where
   unfolding inPlaceForecastCode
   told n z = opened (d o) _ (goes-by o) (code o) (q .if1 .left) n (sym z ∙ code-is)
 
-opened-requires : tie.Need-opened-requires
-opened-requires c κs = search needs
-
 returns : tie.Need-returns
 unfolding inPlaceForecastCode inPlaceForecast
 returns c =
@@ -95,15 +92,6 @@ returns c =
 
 season-ahead-requires : tie.Need-season-ahead-requires
 season-ahead-requires c κs = room-is (d (c .before .before)) _ (held (c .before))
-
-forecast-from-requires : tie.Need-forecast-from-requires
-forecast-from-requires c κs = search needs
-
-enum-known-k : tie.Need-enum-known-k
-enum-known-k c = search needs
-
-enum-known-v : tie.Need-enum-known-v
-enum-known-v c = search needs
 
 returns-2 : tie.Need-returns-2
 unfolding inPlaceForecastCode inPlaceForecast forecastFrom
@@ -125,11 +113,11 @@ pub forecast-spec : {M : Type 1} → statement M
 forecast-spec =
     tie.close
     (tie.spec
-    opened-requires
+    (λ c κs. search needs)
     returns
     season-ahead-requires
-    forecast-from-requires
-    enum-known-k
-    enum-known-v
+    (λ c κs. search needs)
+    (λ c. search needs)
+    (λ c. search needs)
     returns-2
     returns-3)

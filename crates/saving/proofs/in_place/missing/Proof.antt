@@ -32,21 +32,12 @@ told : (c : tie.Else1) (n : ℕ) → missingCode (decoded (d (c .before))) ≡ n
 unfolding inPlaceMissingCode
 told c n z = opened (d (c .before)) _ (goes-by (c .before)) missingCode (c .if1 .left) n (sym z)
 
-opened-requires : tie.Need-opened-requires
-opened-requires c κs = search needs
-
-same-length : tie.Need-same-length
-same-length c = search needs
-
 returns : tie.Need-returns
 unfolding inPlaceMissingCode inPlaceMissingBytes
 returns c =
     let o = c .before in
     let e = unopened (d o) _ (goes-by o) missingCode (c .if1 .taken) in
     (e, rejected missingCode next (λ s. pos 0) (d o) (pos 0) _ e (c .if1 .taken) .0)
-
-same-length-2 : tie.Need-same-length-2
-same-length-2 c = search needs
 
 returns-2 : tie.Need-returns-2
 unfolding inPlaceMissingCode inPlaceMissingBytes
@@ -62,9 +53,6 @@ move-on-requires c κs =
     let h = held q in
     (room-is s _ h, omega (arith, count-is s _ h, bounded (decoded s) (h .passes) .count, c .before .if2 .left))
 
-same-length-3 : tie.Need-same-length-3
-same-length-3 c = search needs
-
 returns-3 : tie.Need-returns-3
 unfolding inPlaceMissingCode inPlaceMissingBytes
 returns-3 c =
@@ -78,11 +66,11 @@ pub missing-spec : {M : Type 1} → statement M
 missing-spec =
     tie.close
     (tie.spec
-    opened-requires
-    same-length
+    (λ c κs. search needs)
+    (λ c. search needs)
     returns
-    same-length-2
+    (λ c. search needs)
     returns-2
     move-on-requires
-    same-length-3
+    (λ c. search needs)
     returns-3)

@@ -6,12 +6,6 @@ use borrow.Author.Needs.{needs}
 use Rattle.saving.proofs.in_place.put_season.Statement.{statement}
 use Rattle.saving.proofs.in_place.put_season.Tie as tie
 
-write-season-requires : tie.Need-write-season-requires
-write-season-requires c κs = search needs
-
-same-length : tie.Need-same-length
-same-length c = search needs
-
 returns : tie.Need-returns
 returns c =
     let w = c .before .before in
@@ -22,4 +16,4 @@ returns-2 : tie.Need-returns-2
 returns-2 c = rw (eq-eqb _ _ (c .if1 .left))
 
 pub put-season-spec : {M : Type 1} → statement M
-put-season-spec = tie.close (tie.spec write-season-requires same-length returns returns-2)
+put-season-spec = tie.close (tie.spec (λ c κs. search needs) (λ c. search needs) returns returns-2)

@@ -30,9 +30,6 @@ some c =
 returns : tie.Need-returns
 returns c = rw (c .if1 .taken)
 
-add-ahead : tie.Need-add-ahead
-add-ahead c = search needs
-
 sub-ahead : tie.Need-sub-ahead
 sub-ahead c = omega (arith, some c)
 
@@ -46,9 +43,6 @@ ahead c = let a = c .before .before .args in mod-lt (a .p + a .h - 1) (some c .0
 cast-season-value : tie.Need-cast-season-value
 cast-season-value c = omega (arith, ahead c)
 
-season-value-requires : tie.Need-season-value-requires
-season-value-requires c κs = search needs
-
 returns-2 : tie.Need-returns-2
 unfolding seasonValue
 returns-2 c =
@@ -60,4 +54,4 @@ returns-2 c =
 pub season-ahead-spec : {M : Type 1} → statement M
 season-ahead-spec =
     tie.close
-    (tie.spec returns add-ahead sub-ahead rem-season-value cast-season-value season-value-requires returns-2)
+    (tie.spec returns (λ c. search needs) sub-ahead rem-season-value cast-season-value (λ c κs. search needs) returns-2)

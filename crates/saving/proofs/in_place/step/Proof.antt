@@ -56,24 +56,12 @@ module _ (c : tie.After-update) where
   unfolding inPlaceStepCode
   told n z = opened (d o) _ (goes-by o) (code o) (c .before .before .if1 .left) n (sym z ∙ code-is)
 
-opened-requires : tie.Need-opened-requires
-opened-requires c κs = search needs
-
-same-length : tie.Need-same-length
-same-length c = search needs
-
 returns : tie.Need-returns
 unfolding inPlaceStepCode inPlaceStepBytes inPlaceResidual
 returns c =
     let o = c .before in
     let e = unopened (d o) _ (goes-by o) (code o) (c .if1 .taken) in
     (e, rejected (code o) (next o) (value o) (d o) _ _ e (c .if1 .taken))
-
-update-requires : tie.Need-update-requires
-update-requires c κs = search needs
-
-same-length-2 : tie.Need-same-length-2
-same-length-2 c = search needs
 
 returns-2 : tie.Need-returns-2
 unfolding inPlaceStepCode inPlaceStepBytes inPlaceResidual
@@ -88,9 +76,6 @@ store-requires c κs =
     let u = i .before in
     let h = held u in
     (room-is (d (o u)) _ h, rw (count-is (d (o u)) _ h) (direct (decoded (d (o u))) (h .passes) (y (o u)) (sym (code-is u) ∙ i .if2 .left) .count))
-
-same-length-3 : tie.Need-same-length-3
-same-length-3 c = search needs
 
 returns-3 : tie.Need-returns-3
 unfolding inPlaceStepCode inPlaceStepBytes inPlaceResidual
@@ -109,12 +94,12 @@ pub step-spec : {M : Type 1} → statement M
 step-spec =
     tie.close
     (tie.spec
-    opened-requires
-    same-length
+    (λ c κs. search needs)
+    (λ c. search needs)
     returns
-    update-requires
-    same-length-2
+    (λ c κs. search needs)
+    (λ c. search needs)
     returns-2
     store-requires
-    same-length-3
+    (λ c. search needs)
     returns-3)

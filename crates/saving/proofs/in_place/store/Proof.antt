@@ -13,18 +13,6 @@ use borrow.Author.Needs.{needs}
 use Rattle.saving.proofs.in_place.store.Statement.{statement}
 use Rattle.saving.proofs.in_place.store.Tie as tie
 
-write-level-requires : tie.Need-write-level-requires
-write-level-requires c κs = search needs
-
-put-season-requires : tie.Need-put-season-requires
-put-season-requires c κs = search needs
-
-move-on-requires : tie.Need-move-on-requires
-move-on-requires c κs = search needs
-
-same-length : tie.Need-same-length
-same-length c = search needs
-
 returns : tie.Need-returns
 returns c =
     let m = c .before .before in
@@ -40,4 +28,4 @@ returns c =
 pub store-spec : {M : Type 1} → statement M
 store-spec =
     tie.close
-    (tie.spec write-level-requires put-season-requires move-on-requires same-length returns)
+    (tie.spec (λ c κs. search needs) (λ c κs. search needs) (λ c κs. search needs) (λ c. search needs) returns)

@@ -5,14 +5,8 @@ use borrow.Author.Needs.{needs}
 use Rattle.saving.proofs.lengths.size_of.Statement.{statement}
 use Rattle.saving.proofs.lengths.size_of.Tie as tie
 
-mul-result : tie.Need-mul-result
-mul-result c = search needs
-
-array-read-result : tie.Need-array-read-result
-array-read-result c = search needs
-
 returns : tie.Need-returns
 returns c = at sizeOf 49 (c .args .m) (c .pre)
 
 pub size-of-spec : {M : Type 1} → statement M
-size-of-spec = tie.close (tie.spec mul-result array-read-result returns)
+size-of-spec = tie.close (tie.spec (λ c. search needs) (λ c. search needs) returns)

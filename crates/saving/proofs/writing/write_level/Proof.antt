@@ -12,18 +12,6 @@ use borrow.Author.Needs.{needs}
 use Rattle.saving.proofs.writing.write_level.Statement.{statement}
 use Rattle.saving.proofs.writing.write_level.Tie as tie
 
-write-byte-requires : tie.Need-write-byte-requires
-write-byte-requires c κs = search needs
-
-write-i64-requires : tie.Need-write-i64-requires
-write-i64-requires c κs = search needs
-
-write-i64-requires-2 : tie.Need-write-i64-requires-2
-write-i64-requires-2 c κs = search needs
-
-same-length : tie.Need-same-length
-same-length c = search needs
-
 returns : tie.Need-returns
 unfolding levelBytes
 returns c =
@@ -41,4 +29,4 @@ returns c =
 pub write-level-spec : {M : Type 1} → statement M
 write-level-spec =
     tie.close
-    (tie.spec write-byte-requires write-i64-requires write-i64-requires-2 same-length returns)
+    (tie.spec (λ c κs. search needs) (λ c κs. search needs) (λ c κs. search needs) (λ c. search needs) returns)

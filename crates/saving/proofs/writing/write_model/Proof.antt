@@ -4,24 +4,6 @@ use borrow.Author.Needs.{needs}
 use Rattle.saving.proofs.writing.write_model.Statement.{statement}
 use Rattle.saving.proofs.writing.write_model.Tie as tie
 
-model-byte-requires : tie.Need-model-byte-requires
-model-byte-requires c κs = search needs
-
-write-byte-requires : tie.Need-write-byte-requires
-write-byte-requires c κs = search needs
-
-write-byte-requires-2 : tie.Need-write-byte-requires-2
-write-byte-requires-2 c κs = search needs
-
-write-byte-requires-3 : tie.Need-write-byte-requires-3
-write-byte-requires-3 c κs = search needs
-
-write-parameters-requires : tie.Need-write-parameters-requires
-write-parameters-requires c κs = search needs
-
-same-length : tie.Need-same-length
-same-length c = search needs
-
 returns : tie.Need-returns
 unfolding modelBytes
 returns c =
@@ -37,10 +19,10 @@ pub write-model-spec : {M : Type 1} → statement M
 write-model-spec =
     tie.close
     (tie.spec
-    model-byte-requires
-    write-byte-requires
-    write-byte-requires-2
-    write-byte-requires-3
-    write-parameters-requires
-    same-length
+    (λ c κs. search needs)
+    (λ c κs. search needs)
+    (λ c κs. search needs)
+    (λ c κs. search needs)
+    (λ c κs. search needs)
+    (λ c. search needs)
     returns)

@@ -6,21 +6,6 @@ use borrow.Author.Needs.{needs}
 use Rattle.saving.proofs.writing.write_parameters.Statement.{statement}
 use Rattle.saving.proofs.writing.write_parameters.Tie as tie
 
-write-le-requires : tie.Need-write-le-requires
-write-le-requires c κs = search needs
-
-write-le-requires-2 : tie.Need-write-le-requires-2
-write-le-requires-2 c κs = search needs
-
-write-le-requires-3 : tie.Need-write-le-requires-3
-write-le-requires-3 c κs = search needs
-
-write-le-requires-4 : tie.Need-write-le-requires-4
-write-le-requires-4 c κs = search needs
-
-same-length : tie.Need-same-length
-same-length c = search needs
-
 returns : tie.Need-returns
 returns c =
     let w4 = c .before .before in
@@ -42,9 +27,9 @@ pub write-parameters-spec : {M : Type 1} → statement M
 write-parameters-spec =
     tie.close
     (tie.spec
-    write-le-requires
-    write-le-requires-2
-    write-le-requires-3
-    write-le-requires-4
-    same-length
+    (λ c κs. search needs)
+    (λ c κs. search needs)
+    (λ c κs. search needs)
+    (λ c κs. search needs)
+    (λ c. search needs)
     returns)

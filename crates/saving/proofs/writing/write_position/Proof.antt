@@ -5,27 +5,6 @@ use borrow.Author.Needs.{needs}
 use Rattle.saving.proofs.writing.write_position.Statement.{statement}
 use Rattle.saving.proofs.writing.write_position.Tie as tie
 
-season-at-requires : tie.Need-season-at-requires
-season-at-requires c κs = search needs
-
-write-byte-requires : tie.Need-write-byte-requires
-write-byte-requires c κs = search needs
-
-add-write-byte : tie.Need-add-write-byte
-add-write-byte c = search needs
-
-write-byte-requires-2 : tie.Need-write-byte-requires-2
-write-byte-requires-2 c κs = search needs
-
-add-write-le : tie.Need-add-write-le
-add-write-le c = search needs
-
-write-le-requires : tie.Need-write-le-requires
-write-le-requires c κs = search needs
-
-same-length : tie.Need-same-length
-same-length c = search needs
-
 returns : tie.Need-returns
 unfolding positionBytes
 returns c =
@@ -38,11 +17,11 @@ pub write-position-spec : {M : Type 1} → statement M
 write-position-spec =
     tie.close
     (tie.spec
-    season-at-requires
-    write-byte-requires
-    add-write-byte
-    write-byte-requires-2
-    add-write-le
-    write-le-requires
-    same-length
+    (λ c κs. search needs)
+    (λ c κs. search needs)
+    (λ c. search needs)
+    (λ c κs. search needs)
+    (λ c. search needs)
+    (λ c κs. search needs)
+    (λ c. search needs)
     returns)

@@ -7,27 +7,6 @@ use borrow.Author.Needs.{needs}
 use Rattle.saving.proofs.writing.write_season.Statement.{statement}
 use Rattle.saving.proofs.writing.write_season.Tie as tie
 
-season-at-requires : tie.Need-season-at-requires
-season-at-requires c κs = search needs
-
-write-byte-requires : tie.Need-write-byte-requires
-write-byte-requires c κs = search needs
-
-add-write-byte : tie.Need-add-write-byte
-add-write-byte c = search needs
-
-write-byte-requires-2 : tie.Need-write-byte-requires-2
-write-byte-requires-2 c κs = search needs
-
-add-write-i64 : tie.Need-add-write-i64
-add-write-i64 c = search needs
-
-write-i64-requires : tie.Need-write-i64-requires
-write-i64-requires c κs = search needs
-
-same-length : tie.Need-same-length
-same-length c = search needs
-
 returns : tie.Need-returns
 unfolding seasonBytes
 returns c =
@@ -41,11 +20,11 @@ pub write-season-spec : {M : Type 1} → statement M
 write-season-spec =
     tie.close
     (tie.spec
-    season-at-requires
-    write-byte-requires
-    add-write-byte
-    write-byte-requires-2
-    add-write-i64
-    write-i64-requires
-    same-length
+    (λ c κs. search needs)
+    (λ c κs. search needs)
+    (λ c. search needs)
+    (λ c κs. search needs)
+    (λ c. search needs)
+    (λ c κs. search needs)
+    (λ c. search needs)
     returns)

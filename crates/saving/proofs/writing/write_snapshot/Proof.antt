@@ -12,21 +12,6 @@ use borrow.Author.Needs.{needs}
 use Rattle.saving.proofs.writing.write_snapshot.Statement.{statement}
 use Rattle.saving.proofs.writing.write_snapshot.Tie as tie
 
-write-model-requires : tie.Need-write-model-requires
-write-model-requires c κs = search needs
-
-write-level-requires : tie.Need-write-level-requires
-write-level-requires c κs = search needs
-
-write-seasons-requires : tie.Need-write-seasons-requires
-write-seasons-requires c κs = search needs
-
-write-position-requires : tie.Need-write-position-requires
-write-position-requires c κs = search needs
-
-same-length : tie.Need-same-length
-same-length c = search needs
-
 returns : tie.Need-returns
 unfolding encoded
 returns c =
@@ -51,9 +36,9 @@ pub write-snapshot-spec : {M : Type 1} → statement M
 write-snapshot-spec =
     tie.close
     (tie.spec
-    write-model-requires
-    write-level-requires
-    write-seasons-requires
-    write-position-requires
-    same-length
+    (λ c κs. search needs)
+    (λ c κs. search needs)
+    (λ c κs. search needs)
+    (λ c κs. search needs)
+    (λ c. search needs)
     returns)

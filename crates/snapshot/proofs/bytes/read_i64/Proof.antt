@@ -6,14 +6,8 @@ use mir.ValLaws.{toZ-ofZ}
 use Rattle.snapshot.proofs.bytes.read_i64.Statement.{statement}
 use Rattle.snapshot.proofs.bytes.read_i64.Tie as tie
 
-read-le-requires : tie.Need-read-le-requires
-read-le-requires c κs = search needs
-
-to-i64-requires : tie.Need-to-i64-requires
-to-i64-requires c κs = search needs
-
 returns : tie.Need-returns
 returns c = toZ-ofZ w64 _ (search needs) ∙ c .to-i64 .ensures ∙ ap (toZ w64) (c .before .read-le .ensures .0)
 
 pub read-i64-spec : {M : Type 1} → statement M
-read-i64-spec = tie.close (tie.spec read-le-requires to-i64-requires returns)
+read-i64-spec = tie.close (tie.spec (λ c κs. search needs) (λ c κs. search needs) returns)

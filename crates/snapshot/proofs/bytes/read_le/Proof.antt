@@ -39,9 +39,6 @@ add-wide c = omega arith
 shared-slice-read-wide : tie.Need-shared-slice-read-wide Inv-loop μ-loop
 shared-slice-read-wide c = omega arith
 
-wide-requires : tie.Need-wide-requires Inv-loop μ-loop
-wide-requires c κs = search needs
-
 mul-v : tie.Need-mul-v Inv-loop μ-loop
 mul-v c = omega (arith, small c)
 
@@ -78,7 +75,7 @@ read-le-spec =
     sub-wide
     add-wide
     shared-slice-read-wide
-    wide-requires
+    (λ c κs. search needs)
     mul-v
     add-v
     loop-less

@@ -7,23 +7,11 @@ use Rattle.snapshot.proofs.Signed.{down, down-fits}
 use Rattle.snapshot.proofs.bytes.to_i64.Statement.{statement}
 use Rattle.snapshot.proofs.bytes.to_i64.Tie as tie
 
-cast-result : tie.Need-cast-result
-cast-result c = search needs
-
-sub-result : tie.Need-sub-result
-sub-result c = search needs
-
-cast-result-2 : tie.Need-cast-result-2
-cast-result-2 c = search needs
-
 sub-result-2 : tie.Need-sub-result-2
 sub-result-2 c = down-fits w64 (c .before .args .n) (c .if1 .left) (c .before .fits .n)
-
-returns : tie.Need-returns
-returns c = search needs
 
 returns-2 : tie.Need-returns-2
 returns-2 c = toZ-ofZ w64 _ (sub-result-2 c) ∙ down w64 (c .before .args .n) (c .if1 .left) (c .before .fits .n)
 
 pub to-i64-spec : {M : Type 1} → statement M
-to-i64-spec = tie.close (tie.spec cast-result sub-result cast-result-2 sub-result-2 returns returns-2)
+to-i64-spec = tie.close (tie.spec (λ c. search needs) (λ c. search needs) (λ c. search needs) sub-result-2 (λ c. search needs) returns-2)

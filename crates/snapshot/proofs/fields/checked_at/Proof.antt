@@ -5,46 +5,10 @@ use borrow.Author.Needs.{needs}
 use Rattle.snapshot.proofs.fields.checked_at.Statement.{statement}
 use Rattle.snapshot.proofs.fields.checked_at.Tie as tie
 
-shared-slice-read-period : tie.Need-shared-slice-read-period
-shared-slice-read-period c = search needs
-
-season-at-requires : tie.Need-season-at-requires
-season-at-requires c κs = search needs
-
-add-index : tie.Need-add-index
-add-index c = search needs
-
-shared-slice-read-index : tie.Need-shared-slice-read-index
-shared-slice-read-index c = search needs
-
-read-u32-requires : tie.Need-read-u32-requires
-read-u32-requires c κs = search needs
-
-read-u32-requires-2 : tie.Need-read-u32-requires-2
-read-u32-requires-2 c κs = search needs
-
-read-u32-requires-3 : tie.Need-read-u32-requires-3
-read-u32-requires-3 c κs = search needs
-
-read-u32-requires-4 : tie.Need-read-u32-requires-4
-read-u32-requires-4 c κs = search needs
-
-read-i64-requires : tie.Need-read-i64-requires
-read-i64-requires c κs = search needs
-
-read-i64-requires-2 : tie.Need-read-i64-requires-2
-read-i64-requires-2 c κs = search needs
-
 season-due-requires : tie.Need-season-due-requires
 season-due-requires c κs =
     let x = c .before .before .before .before .before .before .before in
     rw (x .season-at .ensures) (x .before .before .before .pre)
-
-add-read-le : tie.Need-add-read-le
-add-read-le c = search needs
-
-read-le-requires : tie.Need-read-le-requires
-read-le-requires c κs = search needs
 
 returns : tie.Need-returns
 returns c =
@@ -61,17 +25,17 @@ pub checked-at-spec : {M : Type 1} → statement M
 checked-at-spec =
     tie.close
     (tie.spec
-    shared-slice-read-period
-    season-at-requires
-    add-index
-    shared-slice-read-index
-    read-u32-requires
-    read-u32-requires-2
-    read-u32-requires-3
-    read-u32-requires-4
-    read-i64-requires
-    read-i64-requires-2
+    (λ c. search needs)
+    (λ c κs. search needs)
+    (λ c. search needs)
+    (λ c. search needs)
+    (λ c κs. search needs)
+    (λ c κs. search needs)
+    (λ c κs. search needs)
+    (λ c κs. search needs)
+    (λ c κs. search needs)
+    (λ c κs. search needs)
     season-due-requires
-    add-read-le
-    read-le-requires
+    (λ c. search needs)
+    (λ c κs. search needs)
     returns)

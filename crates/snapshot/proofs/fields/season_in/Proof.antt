@@ -5,17 +5,8 @@ use borrow.Author.Needs.{needs}
 use Rattle.snapshot.proofs.fields.season_in.Statement.{statement}
 use Rattle.snapshot.proofs.fields.season_in.Tie as tie
 
-season-at-requires : tie.Need-season-at-requires
-season-at-requires c κs = search needs
-
-add-read-i64 : tie.Need-add-read-i64
-add-read-i64 c = search needs
-
-read-i64-requires : tie.Need-read-i64-requires
-read-i64-requires c κs = search needs
-
 returns : tie.Need-returns
 returns c = rw (back w64 _ (c .read-i64 .ok)) (rw (c .before .season-at .ensures) at (c .read-i64 .ensures))
 
 pub season-in-spec : {M : Type 1} → statement M
-season-in-spec = tie.close (tie.spec season-at-requires add-read-i64 read-i64-requires returns)
+season-in-spec = tie.close (tie.spec (λ c κs. search needs) (λ c. search needs) (λ c κs. search needs) returns)

@@ -9,12 +9,6 @@ use borrow.Author.Needs.{needs}
 use Rattle.snapshot.proofs.fields.state_at.Statement.{statement}
 use Rattle.snapshot.proofs.fields.state_at.Tie as tie
 
-checked-at-requires : tie.Need-checked-at-requires
-checked-at-requires c κs = search needs
-
-shared-slice-read-t6 : tie.Need-shared-slice-read-t6
-shared-slice-read-t6 c = search needs
-
 read-cells-requires : tie.Need-read-cells-requires
 read-cells-requires c κs =
     let x = c .before .before .before .before in
@@ -32,4 +26,4 @@ returns c =
 pub state-at-spec : {M : Type 1} → statement M
 state-at-spec =
     tie.close
-    (tie.spec checked-at-requires shared-slice-read-t6 read-cells-requires returns)
+    (tie.spec (λ c κs. search needs) (λ c. search needs) read-cells-requires returns)

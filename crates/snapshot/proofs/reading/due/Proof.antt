@@ -10,15 +10,6 @@ returns : tie.Need-returns
 unfolding dueCode
 returns c = rw (le-ltb _ _ (c .if1 .taken))
 
-shared-slice-read-b : tie.Need-shared-slice-read-b
-shared-slice-read-b c = search needs
-
-sub-left : tie.Need-sub-left
-sub-left c = search needs
-
-is-command-requires : tie.Need-is-command-requires
-is-command-requires c κs = search needs
-
 returns-2 : tie.Need-returns-2
 unfolding dueCode
 returns-2 c =
@@ -31,12 +22,6 @@ returns-3 c =
     let b = c .before .before in
     rw (lt-ltb _ _ (b .before .before .if1 .left), ← (c .before .is-command .ensures), c .if3 .left)
 
-entry-of-requires : tie.Need-entry-of-requires
-entry-of-requires c κs = search needs
-
-unless-requires : tie.Need-unless-requires
-unless-requires c κs = search needs
-
 returns-4 : tie.Need-returns-4
 unfolding dueCode
 returns-4 c =
@@ -48,11 +33,11 @@ due-spec =
     tie.close
     (tie.spec
     returns
-    shared-slice-read-b
-    sub-left
-    is-command-requires
+    (λ c. search needs)
+    (λ c. search needs)
+    (λ c κs. search needs)
     returns-2
     returns-3
-    entry-of-requires
-    unless-requires
+    (λ c κs. search needs)
+    (λ c κs. search needs)
     returns-4)

@@ -21,13 +21,10 @@ values-at-requires : tie.Need-values-at-requires
 unfolding commandSize
 values-at-requires c κs = due _ levelAt 0x11 (sym (c .before .due .ensures) ∙ c .if1 .left) .room
 
-unless-requires : tie.Need-unless-requires
-unless-requires c κs = search needs
-
 returns-2 : tie.Need-returns-2
 unfolding levelCode
 returns-2 c = rw (← (c .before .before .before .due .ensures), eq-eqb _ _ (c .before .before .if1 .left), ← (c .before .values-at .ensures)) (c .unless .ensures)
 
 pub level-code-spec : {M : Type 1} → statement M
 level-code-spec =
-    tie.close (tie.spec due-requires returns values-at-requires unless-requires returns-2)
+    tie.close (tie.spec due-requires returns values-at-requires (λ c κs. search needs) returns-2)

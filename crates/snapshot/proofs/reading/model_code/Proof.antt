@@ -29,32 +29,11 @@ returns c = rw (← (c .before .due .ensures), ne-eqb _ _ (c .if1 .taken))
 shared-slice-read-model : tie.Need-shared-slice-read-model
 shared-slice-read-model c = omega (arith, room (c .before))
 
-model-ok-requires : tie.Need-model-ok-requires
-model-ok-requires c κs = search needs
-
-unless-requires : tie.Need-unless-requires
-unless-requires c κs = search needs
-
 shared-slice-read-period-ok : tie.Need-shared-slice-read-period-ok
 shared-slice-read-period-ok c = omega (arith, room (c .before .before .before .before))
 
-period-ok-requires : tie.Need-period-ok-requires
-period-ok-requires c κs = search needs
-
-unless-requires-2 : tie.Need-unless-requires-2
-unless-requires-2 c κs = search needs
-
-first-requires : tie.Need-first-requires
-first-requires c κs = search needs
-
 parameters-at-requires : tie.Need-parameters-at-requires
 parameters-at-requires c κs = room (c .before .before .before .before .before .before .before)
-
-unless-requires-3 : tie.Need-unless-requires-3
-unless-requires-3 c κs = search needs
-
-first-requires-2 : tie.Need-first-requires-2
-first-requires-2 c κs = search needs
 
 returns-2 : tie.Need-returns-2
 unfolding modelCode
@@ -82,13 +61,13 @@ model-code-spec =
     due-requires
     returns
     shared-slice-read-model
-    model-ok-requires
-    unless-requires
+    (λ c κs. search needs)
+    (λ c κs. search needs)
     shared-slice-read-period-ok
-    period-ok-requires
-    unless-requires-2
-    first-requires
+    (λ c κs. search needs)
+    (λ c κs. search needs)
+    (λ c κs. search needs)
     parameters-at-requires
-    unless-requires-3
-    first-requires-2
+    (λ c κs. search needs)
+    (λ c κs. search needs)
     returns-2)

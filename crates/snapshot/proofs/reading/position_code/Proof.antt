@@ -25,26 +25,11 @@ returns : tie.Need-returns
 unfolding positionCode
 returns c = rw (← (c .before .before .before .pre), ← (c .before .due .ensures), ne-eqb _ _ (c .if1 .taken))
 
-add-index-ok : tie.Need-add-index-ok
-add-index-ok c = search needs
-
 shared-slice-read-index-ok : tie.Need-shared-slice-read-index-ok
 shared-slice-read-index-ok c = omega (arith, room (c .before))
 
-index-ok-requires : tie.Need-index-ok-requires
-index-ok-requires c κs = search needs
-
-add-read-le : tie.Need-add-read-le
-add-read-le c = search needs
-
 read-le-requires : tie.Need-read-le-requires
 read-le-requires c κs = (lit≤ tt, omega (arith, room (c .before .before)))
-
-count-ok-requires : tie.Need-count-ok-requires
-count-ok-requires c κs = search needs
-
-unless-requires : tie.Need-unless-requires
-unless-requires c κs = search needs
 
 returns-2 : tie.Need-returns-2
 unfolding positionCode
@@ -59,11 +44,11 @@ position-code-spec =
     (tie.spec
     due-requires
     returns
-    add-index-ok
+    (λ c. search needs)
     shared-slice-read-index-ok
-    index-ok-requires
-    add-read-le
+    (λ c κs. search needs)
+    (λ c. search needs)
     read-le-requires
-    count-ok-requires
-    unless-requires
+    (λ c κs. search needs)
+    (λ c κs. search needs)
     returns-2)

@@ -15,15 +15,9 @@ use Rattle.snapshot.proofs.reading.scan.Tie as tie
 room : (c : tie.Else1) → modelLength ≤ length (c .before .before .before .args .s .now)
 room c = model _ (sym (c .before .model-code .ensures) ∙ c .if1 .left) .due .room
 
-model-code-requires : tie.Need-model-code-requires
-model-code-requires c κs = search needs
-
 returns : tie.Need-returns
 unfolding scan
 returns c = rw (← (c .before .model-code .ensures), ne-eqb _ _ (c .if1 .taken))
-
-level-code-requires : tie.Need-level-code-requires
-level-code-requires c κs = search needs
 
 returns-2 : tie.Need-returns-2
 unfolding scan
@@ -33,9 +27,6 @@ returns-2 c =
 
 shared-slice-read-scan-seasons : tie.Need-shared-slice-read-scan-seasons
 shared-slice-read-scan-seasons c = omega (arith, room (c .before .before .before))
-
-scan-seasons-requires : tie.Need-scan-seasons-requires
-scan-seasons-requires c κs = search needs
 
 returns-3 : tie.Need-returns-3
 unfolding scan
@@ -48,10 +39,10 @@ pub scan-spec : {M : Type 1} → statement M
 scan-spec =
     tie.close
     (tie.spec
-    model-code-requires
+    (λ c κs. search needs)
     returns
-    level-code-requires
+    (λ c κs. search needs)
     returns-2
     shared-slice-read-scan-seasons
-    scan-seasons-requires
+    (λ c κs. search needs)
     returns-3)

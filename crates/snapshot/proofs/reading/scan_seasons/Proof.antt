@@ -31,12 +31,6 @@ abbrev μ-loop : tie.MeasureT-loop
 loop-holds : tie.Need-loop-holds Inv-loop μ-loop
 loop-holds c = (zero-le, rw sub-zero)
 
-season-code-requires : tie.Need-season-code-requires Inv-loop μ-loop
-season-code-requires c κs = search needs
-
-season-at-requires : tie.Need-season-at-requires Inv-loop μ-loop
-season-at-requires c κs = search needs
-
 returns : tie.Need-returns Inv-loop μ-loop
 returns c =
     let i = c .before .before in
@@ -58,9 +52,6 @@ loop-again c =
     let e : a .m - l .k ≡ suc (a .m - (l .k + 1)) = omega arith in
     (omega arith, sym (passes (a .s .now) (l .k) _ (scanPosition (a .s .now) (a .m)) (sym (c .before .season-code .ensures) ∙ c .if1 .left)) ∙ (rw e at (l .inv .1)))
 
-scan-position-requires : tie.Need-scan-position-requires Inv-loop μ-loop
-scan-position-requires c κs = search needs
-
 returns-2 : tie.Need-returns-2 Inv-loop μ-loop
 unfolding scanSeasons
 returns-2 c =
@@ -75,11 +66,11 @@ scan-seasons-spec =
     Inv-loop
     μ-loop
     loop-holds
-    season-code-requires
-    season-at-requires
+    (λ c κs. search needs)
+    (λ c κs. search needs)
     returns
     add-k
     loop-less
     loop-again
-    scan-position-requires
+    (λ c κs. search needs)
     returns-2)

@@ -18,9 +18,6 @@ room : (c : tie.Else1) → c .before .before .season-at .result + seasonLength �
 unfolding commandSize
 room c = due _ _ 0x12 (sym (c .before .due .ensures) ∙ c .if1 .left) .room
 
-season-at-requires : tie.Need-season-at-requires
-season-at-requires c κs = search needs
-
 due-requires : tie.Need-due-requires
 unfolding isCommand commandSize
 due-requires c κs = refl
@@ -28,9 +25,6 @@ due-requires c κs = refl
 returns : tie.Need-returns
 unfolding seasonCode
 returns c = rw (← (c .before .before .season-at .ensures), ← (c .before .due .ensures), ne-eqb _ _ (c .if1 .taken))
-
-add-if2 : tie.Need-add-if2
-add-if2 c = search needs
 
 shared-slice-read-if2 : tie.Need-shared-slice-read-if2
 shared-slice-read-if2 c = omega (arith, room (c .before))
@@ -41,17 +35,8 @@ returns-2 c =
     let i = c .before .before in
     rw (← (i .before .before .season-at .ensures), ← (i .before .due .ensures), eq-eqb _ _ (i .if1 .left), ne-eqb _ _ (c .if2 .taken))
 
-add-read-i64 : tie.Need-add-read-i64
-add-read-i64 c = search needs
-
 read-i64-requires : tie.Need-read-i64-requires
 read-i64-requires c κs = omega (arith, room (c .before .before))
-
-in-range-requires : tie.Need-in-range-requires
-in-range-requires c κs = search needs
-
-unless-requires : tie.Need-unless-requires
-unless-requires c κs = search needs
 
 returns-3 : tie.Need-returns-3
 unfolding seasonCode
@@ -64,14 +49,14 @@ pub season-code-spec : {M : Type 1} → statement M
 season-code-spec =
     tie.close
     (tie.spec
-    season-at-requires
+    (λ c κs. search needs)
     due-requires
     returns
-    add-if2
+    (λ c. search needs)
     shared-slice-read-if2
     returns-2
-    add-read-i64
+    (λ c. search needs)
     read-i64-requires
-    in-range-requires
-    unless-requires
+    (λ c κs. search needs)
+    (λ c κs. search needs)
     returns-3)

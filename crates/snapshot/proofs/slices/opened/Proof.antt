@@ -7,12 +7,6 @@ use borrow.Author.Needs.{needs}
 use Rattle.snapshot.proofs.slices.opened.Statement.{statement}
 use Rattle.snapshot.proofs.slices.opened.Tie as tie
 
-slice-code-requires : tie.Need-slice-code-requires
-slice-code-requires c κs = search needs
-
-unopened-requires : tie.Need-unopened-requires
-unopened-requires c κs = search needs
-
 returns : tie.Need-returns
 unfolding openedIn
 returns c = rw (c .unopened .ensures, ← (c .before .before .slice-code .ensures), ne-eqb _ _ (c .before .if1 .taken))
@@ -27,4 +21,4 @@ returns-2 c = rw (c .checked-at .ensures, ← (c .before .before .slice-code .en
 pub opened-spec : {M : Type 1} → statement M
 opened-spec =
     tie.close
-    (tie.spec slice-code-requires unopened-requires returns checked-at-requires returns-2)
+    (tie.spec (λ c κs. search needs) (λ c κs. search needs) returns checked-at-requires returns-2)

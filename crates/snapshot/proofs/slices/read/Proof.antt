@@ -6,12 +6,6 @@ use borrow.Author.Needs.{needs}
 use Rattle.snapshot.proofs.slices.read.Statement.{statement}
 use Rattle.snapshot.proofs.slices.read.Tie as tie
 
-slice-code-requires : tie.Need-slice-code-requires
-slice-code-requires c κs = search needs
-
-no-state-requires : tie.Need-no-state-requires
-no-state-requires c κs = search needs
-
 returns : tie.Need-returns
 unfolding inPlaceRead
 returns c = rw (c .no-state .ensures, ← (c .before .before .slice-code .ensures), ne-eqb _ _ (c .before .if1 .taken))
@@ -25,4 +19,4 @@ returns-2 c = rw (c .state-at .ensures, ← (c .before .before .slice-code .ensu
 
 pub read-spec : {M : Type 1} → statement M
 read-spec =
-    tie.close (tie.spec slice-code-requires no-state-requires returns state-at-requires returns-2)
+    tie.close (tie.spec (λ c κs. search needs) (λ c κs. search needs) returns state-at-requires returns-2)

@@ -12,20 +12,11 @@ use borrow.Author.Needs.{needs}
 use Rattle.snapshot.proofs.slices.season_value.Statement.{statement}
 use Rattle.snapshot.proofs.slices.season_value.Tie as tie
 
-season-at-requires : tie.Need-season-at-requires
-season-at-requires c κs = search needs
-
-add-if1 : tie.Need-add-if1
-add-if1 c = search needs
-
 returns : tie.Need-returns
 unfolding seasonValue
 returns c =
     let a = c .before .before .before .args in
     rw (lt-leb (seasonAt (a .k) + seasonLength) (length (a .snapshot .now)) (omega (arith, c .before .season-at .ensures)))
-
-season-in-requires : tie.Need-season-in-requires
-season-in-requires c κs = search needs
 
 returns-2 : tie.Need-returns-2
 unfolding seasonValue
@@ -36,4 +27,4 @@ returns-2 c =
 
 pub season-value-spec : {M : Type 1} → statement M
 season-value-spec =
-    tie.close (tie.spec season-at-requires add-if1 returns season-in-requires returns-2)
+    tie.close (tie.spec (λ c κs. search needs) (λ c. search needs) returns (λ c κs. search needs) returns-2)

@@ -5,15 +5,6 @@ use borrow.Author.Needs.{needs}
 use Rattle.snapshot.proofs.slices.slice_code.Statement.{statement}
 use Rattle.snapshot.proofs.slices.slice_code.Tie as tie
 
-scan-requires : tie.Need-scan-requires
-scan-requires c κs = search needs
-
-unless-requires : tie.Need-unless-requires
-unless-requires c κs = search needs
-
-first-requires : tie.Need-first-requires
-first-requires c κs = search needs
-
 returns : tie.Need-returns
 unfolding inPlaceCode
 returns c =
@@ -21,4 +12,4 @@ returns c =
     rw (c .first .ensures, c .before .unless .ensures, ap (λ (r : Scanned). r .code) (s .scan .ensures), ap (λ (r : Scanned). r .offset) (s .scan .ensures))
 
 pub slice-code-spec : {M : Type 1} → statement M
-slice-code-spec = tie.close (tie.spec scan-requires unless-requires first-requires returns)
+slice-code-spec = tie.close (tie.spec (λ c κs. search needs) (λ c κs. search needs) (λ c κs. search needs) returns)

@@ -5,9 +5,6 @@ use borrow.Author.Needs.{needs}
 use Rattle.snapshot.proofs.table.command_length.Statement.{statement}
 use Rattle.snapshot.proofs.table.command_length.Tie as tie
 
-entry-of-requires : tie.Need-entry-of-requires
-entry-of-requires c κs = search needs
-
 returns : tie.Need-returns
 unfolding isCommand commandLength
 returns c = rw (← (c .before .entry-of .ensures .0), c .if1 .taken)
@@ -17,4 +14,4 @@ unfolding isCommand commandLength
 returns-2 c = rw (← (c .before .entry-of .ensures .0), ne-eqb _ _ (c .if1 .left))
 
 pub command-length-spec : {M : Type 1} → statement M
-command-length-spec = tie.close (tie.spec entry-of-requires returns returns-2)
+command-length-spec = tie.close (tie.spec (λ c κs. search needs) returns returns-2)

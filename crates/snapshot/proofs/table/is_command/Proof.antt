@@ -4,12 +4,9 @@ use borrow.Author.Needs.{needs}
 use Rattle.snapshot.proofs.table.is_command.Statement.{statement}
 use Rattle.snapshot.proofs.table.is_command.Tie as tie
 
-entry-of-requires : tie.Need-entry-of-requires
-entry-of-requires c κs = search needs
-
 returns : tie.Need-returns
 unfolding isCommand
 returns c = rw (← (c .before .entry-of .ensures .0))
 
 pub is-command-spec : {M : Type 1} → statement M
-is-command-spec = tie.close (tie.spec entry-of-requires returns)
+is-command-spec = tie.close (tie.spec (λ c κs. search needs) returns)
