@@ -60,14 +60,14 @@ pub fn open_snapshot(s: &[u8], x: Session) -> Performed
     ensures { λ r. ⌜ r ≡ openSnapshot (now (s .entry)) x ⌝ }
 {
     let at = x.at;
-    let group = &s[at..];
+    let tail = &s[at..];
     let mut code = 0u8;
-    let left = rest(group, &mut code);
+    let left = rest(tail, &mut code);
     let next = s.len() - left.len();
     if code != 0 {
         return reject(code, next, x);
     }
-    let found = read(group);
+    let found = read(tail);
     accept(
         Reply::Opened {
             model: found.state.model,
