@@ -98,7 +98,10 @@ fn season_ahead(s: &[u8], m: u8, p: u8, h: u32) -> i64
         return 0;
     }
     let ahead = (p as usize) + (h as usize) - 1;
-    season_value(s, (ahead % (m as usize)) as u8)
+    match season_value(s, (ahead % (m as usize)) as u8) {
+        Answer::Accepted(v) => v,
+        Answer::Rejected(_) => 0,
+    }
 }
 
 // The forecast for one horizon.

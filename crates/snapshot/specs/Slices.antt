@@ -3,10 +3,11 @@ use Prim.Native.Nat.{ℕ, _+_}
 use mathlib.Core.Bool.{cond}
 use mathlib.Core.List.{List}
 use lib.Dec.{eqb, leb}
-use lib.IntN.{ℤ, pos}
+use lib.IntN.{pos}
 use lib.ListN.{length}
-use Rattle.state.specs.Rejections.{unless, _then_, out-of-place, accepting, outcome}
+use Rattle.state.specs.Rejections.{unless, _then_, out-of-place, truncated, accepting, outcome, answer}
 use Rattle.state.specs.States.{noState}
+use Rattle.state.specs.declared.Answer.{Answer}
 use Rattle.ets.specs.declared.Numbers.{Numbers}
 use Rattle.snapshot.specs.CommandTable.{seasonLength}
 use Rattle.snapshot.specs.Layout.{seasonAt, periodIn, alphaIn, betaIn, gammaIn, phiIn, levelIn, trendIn, seasonIn, indexIn, countIn}
@@ -53,6 +54,6 @@ notOpened code =
 unfoldable pub openedIn : List ℕ → Checked
 openedIn d = accepting (inPlaceCode d) (checkedIn d) notOpened
 
--- the call: the season value of index k, 0 where the slice ends before or inside its command
-unfoldable pub seasonValue : List ℕ → ℕ → ℤ
-seasonValue d k = cond (leb (seasonAt k + seasonLength) (length d)) (seasonIn d k) (pos 0)
+-- the call: the season value of index k; 4 where the slice ends before or inside its command
+unfoldable pub seasonValue : List ℕ → ℕ → Answer
+seasonValue d k = answer (unless (leb (seasonAt k + seasonLength) (length d)) truncated) (seasonIn d k)

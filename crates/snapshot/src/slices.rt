@@ -8,8 +8,10 @@ use super::layout::season_at;
 use super::reading::scan;
 use super::table::SEASON_LENGTH;
 use ets::Numbers;
+use state::Answer;
 use state::OUT_OF_PLACE;
 use state::Outcome;
+use state::TRUNCATED;
 use state::first;
 use state::no_state;
 use state::unless;
@@ -76,12 +78,12 @@ pub fn read(snapshot: &[u8]) -> Opened
     }
 }
 
-// The season value of index k, 0 where the slice ends before or inside its command.
-pub fn season_value(snapshot: &[u8], k: u8) -> i64
+// The season value of index k; 4 where the slice ends before or inside its command.
+pub fn season_value(snapshot: &[u8], k: u8) -> Answer
     ensures { λ r. ⌜ r ≡ seasonValue (now (snapshot .entry)) k ⌝ }
 {
     if snapshot.len() < season_at(k) + SEASON_LENGTH {
-        return 0;
+        return Answer::Rejected(TRUNCATED);
     }
-    season_in(snapshot, k)
+    Answer::Accepted(season_in(snapshot, k))
 }

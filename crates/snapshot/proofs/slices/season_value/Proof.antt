@@ -23,7 +23,7 @@ unfolding seasonValue
 returns-2 c =
     let i = c .before in
     let a = i .before .before .before .args in
-    rw (le-leb (seasonAt (a .k) + seasonLength) (length (a .snapshot .now)) (omega (arith, i .before .season-at .ensures)), back w64 _ (c .season-in .ok)) (c .season-in .ensures)
+    rw (le-leb (seasonAt (a .k) + seasonLength) (length (a .snapshot .now)) (omega (arith, i .before .season-at .ensures)), back w64 _ (c .season-in .ok), c .season-in .ensures)
 
 pub season-value-spec : {M : Type 1} → statement M
 season-value-spec =
