@@ -28,13 +28,14 @@ use Rattle.decoding.specs.Decoding.{decode}
 use Rattle.decoding.specs.declared.Command.{Command}
 use Rattle.decoding.specs.declared.Decoded.{Decoded}
 use Rattle.commands.specs.Commands.{accepted, rejected, restOffset, openSnapshot, act, buffered, perform, performBytes}
+use Rattle.commands.specs.Stream.{snapshotRoom}
 use Rattle.commands.specs.declared.Session.{Session}
 use Rattle.commands.specs.declared.Performed.{Performed}
 
-pub snapshot-most : (s : State) → check s ≡ 0 → length (encoded s) ≤ 526
+pub snapshot-most : (s : State) → check s ≡ 0 → length (encoded s) ≤ snapshotRoom
 snapshot-most s e = omega (arith, length-encoded s, bounded s e .period)
 
-pub told-most : (s : State) (n : ℕ) → bytesNeeded s ≡ length-of.Bytes n → n ≤ 526
+pub told-most : (s : State) (n : ℕ) → bytesNeeded s ≡ length-of.Bytes n → n ≤ snapshotRoom
 unfolding bytesNeeded
 told-most s n e =
     let l = lengths (check s) (sizeOf (s .period)) in

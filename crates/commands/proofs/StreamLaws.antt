@@ -86,7 +86,7 @@ saved-line t d z = rw (z, front d (encoded t) (save-facts t (length d) z .1))
 pub record Goes (s : List ℕ) (x : Session) (buffer : List ℕ) (p : Performed) : Type 0 where
   pub moves : isLast (p .reply) ≡ false → (x .at < p .session .at) × (p .session .at ≤ length s)
   pub sound : Sound x → Sound (p .session)
-  pub saved : savedCount (p .reply) ≤ 526
+  pub saved : savedCount (p .reply) ≤ snapshotRoom
   pub line : lineOf (p .reply) buffer ≡ lineAfter p
 
 module _ (s : List ℕ) (x : Session) (d : List ℕ) where
@@ -94,7 +94,7 @@ module _ (s : List ℕ) (x : Session) (d : List ℕ) where
   unfolding lineAfter lineOf fieldsBytes
   stays n offset = record { moves = λ e. absurd (true≢false e); sound = λ p. p; saved = omega arith; line = refl }
 
-  goes : (r : Reply) (to : ℕ) (t : State) → x .at < to → to ≤ length s → (Sound x → Passes t) → savedCount r ≤ 526 → lineOf r d ≡ lineOf r (encoded t) → Goes s x d (accepted r to t)
+  goes : (r : Reply) (to : ℕ) (t : State) → x .at < to → to ≤ length s → (Sound x → Passes t) → savedCount r ≤ snapshotRoom → lineOf r d ≡ lineOf r (encoded t) → Goes s x d (accepted r to t)
   unfolding lineAfter
   goes r to t h k f n e = record { moves = λ _. (h, k); sound = λ p. record { passes = λ _. f p }; saved = n; line = e }
 
@@ -243,7 +243,7 @@ line-written s x room h =
     let r = next s x .reply in
     let saved = encoded (next s x .session .state) in
     let e = length-replicate {A = ℕ} room 0 in
-    let m = line-most r saved (next-goes s x .saved) in
+    let m = line-most r saved snapshotRoom (omega arith) (next-goes s x .saved) in
     rw e at (long-enough r saved (replicate room 0) (omega arith) .0)
 
 more : (p : Performed) (l : List Performed) → isLast (p .reply) ≡ false → EndsOnce l → EndsOnce (p ∷ l)

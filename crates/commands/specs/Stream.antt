@@ -1,5 +1,5 @@
 -- Document 01, "The program's lines": a whole stream, its answers and its text.
-use Prim.Native.Nat.{ℕ, zero, suc, _-_}
+use Prim.Native.Nat.{ℕ, zero, suc, _+_, _*_, _-_}
 use mathlib.Core.Bool.{cond}
 use mathlib.Core.List.{List, [], _∷_, _++_}
 use lib.Dec.{leb}
@@ -7,6 +7,7 @@ use lib.ListN.{length}
 use Rattle.state.specs.Rejections.{unless, outcome, input-too-long}
 use Rattle.state.specs.declared.Outcome.{Outcome}
 use Rattle.state.specs.declared.Outcome.the-variants as outcome-of
+use Rattle.snapshot.specs.Layout.{sizeOf}
 use Rattle.saving.specs.Encoding.{encoded}
 use Rattle.lines.specs.Lines.{lineOf, writeLine, lineBytes}
 use Rattle.replies.specs.declared.Reply.{Reply}
@@ -22,11 +23,11 @@ inputLimit = 65536
 
 -- the longest group, with a season of 48: the room of the buffer that the program saves into
 abbrev pub snapshotRoom : ℕ
-snapshotRoom = 526
+snapshotRoom = sizeOf 48
 
--- the longest line, that of such a group
+-- the longest line, that of such a group: its letter, a space, two digits a byte, the line's end
 abbrev pub lineRoom : ℕ
-lineRoom = 1055
+lineRoom = 3 + 2 * snapshotRoom
 
 -- the call: refusal 1, before the first command is looked at
 unfoldable pub admit : List ℕ → Outcome

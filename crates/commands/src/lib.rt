@@ -15,6 +15,7 @@ use performing::save_state;
 use performing::take_missing;
 use performing::take_reading;
 use replies::Reply;
+use snapshot::layout::MAX_SIZE;
 use state::INPUT_TOO_LONG;
 use state::Outcome;
 use state::State;
@@ -27,10 +28,8 @@ ghost use Rattle.commands.specs.Stream.{admit, writeNext, nextBytes};
 // The longest input of the program.
 pub const INPUT_LIMIT: usize = 65536;
 
-// The longest snapshot, with a season of 48, and the line of its save.
-pub const MAX_SNAPSHOT: usize = 526;
-
-pub const MAX_LINE: usize = 1055;
+// The longest line, that of a saved snapshot: its letter, a space, two digits a byte, the line's end.
+pub const MAX_LINE: usize = 3 + 2 * MAX_SIZE;
 
 // What stands between two commands of a stream: the offset of the next one, and the state, where one is open.
 // The fields are private: only `start` and `perform` make a session, so that the state of every session passes its checks.
@@ -125,7 +124,7 @@ pub fn write_next(stream: &[u8], session: Session, line: &mut [u8]) -> Written
     ensures answer { λ r. ⌜ r ≡ writeNext (now (stream .entry)) session (length (now (line .entry))) ⌝ }
     ensures bytes { λ _. ⌜ now (line .exit) ≡ nextBytes (now (stream .entry)) session (now (line .entry)) ⌝ }
 {
-    let mut saved = [0u8; MAX_SNAPSHOT];
+    let mut saved = [0u8; MAX_SIZE];
     let performed = perform(stream, session, &mut saved);
     let reply = performed.reply;
     let written = write_line(reply, &saved, line);

@@ -1,5 +1,5 @@
 -- Laws of a reply's line: how long it is, and what writing one gives.
-use Prim.Native.Nat.{ℕ, zero, suc, _+_, _≤_, _<_}
+use Prim.Native.Nat.{ℕ, zero, suc, _+_, _*_, _≤_, _<_}
 use mathlib.Core.Path.{_≡_, refl}
 use mathlib.Core.Bool.{Bool, true, false}
 use mathlib.Core.List.{List, [], _∷_}
@@ -34,7 +34,7 @@ module _ (r : Reply) (saved d : List ℕ) where
   unfolding writeLine lineBytes
   long-enough h = let e = le-leb (length (lineOf r saved)) (length d) h in (rw e, rw e)
 
--- ---- the longest line is that of a save of 526 bytes, a snapshot with a season of 48
+-- ---- the longest line is that of a save
 take-most : (n : ℕ) (l : List ℕ) → length (take n l) ≤ n
 take-most zero l = omega arith
 take-most (suc n) [] = omega arith
@@ -59,18 +59,19 @@ savedCount (Saved n) = n
 savedCount (Rejected code offset) = 0
 savedCount (Ended count) = 0
 
-pub line-most : (r : Reply) (saved : List ℕ) → savedCount r ≤ 526 → length (lineOf r saved) ≤ 1055
+-- a line of numbers has no more than 65 bytes, as many as one of 31 that were saved
+pub line-most : (r : Reply) (saved : List ℕ) (most : ℕ) → 31 ≤ most → savedCount r ≤ most → length (lineOf r saved) ≤ 3 + 2 * most
 unfolding lineOf
-line-most (Opened model m) saved h = omega (arith, length-fields saved (fieldsOf (Opened model m)), unsigned-most model, unsigned-most m)
-line-most (Residual e) saved h = omega (arith, length-fields saved (fieldsOf (Residual e)), signed-most e)
-line-most Missing saved h = omega (arith, length-fields saved (fieldsOf Missing))
-line-most (Forecast j v) saved h = omega (arith, length-fields saved (fieldsOf (Forecast j v)), unsigned-most j, signed-most v)
-line-most (Variance j high low) saved h =
+line-most (Opened model m) saved most b h = omega (arith, length-fields saved (fieldsOf (Opened model m)), unsigned-most model, unsigned-most m)
+line-most (Residual e) saved most b h = omega (arith, length-fields saved (fieldsOf (Residual e)), signed-most e)
+line-most Missing saved most b h = omega (arith, length-fields saved (fieldsOf Missing))
+line-most (Forecast j v) saved most b h = omega (arith, length-fields saved (fieldsOf (Forecast j v)), unsigned-most j, signed-most v)
+line-most (Variance j high low) saved most b h =
     omega (arith, length-fields saved (fieldsOf (Variance j high low)), unsigned-most j, unsigned-most high, unsigned-most low)
-line-most (Saved n) saved h = omega (arith, length-fields saved (fieldsOf (Saved n)), length-hexadecimal (take n saved), take-most n saved)
-line-most (Rejected code offset) saved h =
+line-most (Saved n) saved most b h = omega (arith, length-fields saved (fieldsOf (Saved n)), length-hexadecimal (take n saved), take-most n saved)
+line-most (Rejected code offset) saved most b h =
     omega (arith, length-fields saved (fieldsOf (Rejected code offset)), unsigned-most code, unsigned-most offset)
-line-most (Ended count) saved h = omega (arith, length-fields saved (fieldsOf (Ended count)), unsigned-most count)
+line-most (Ended count) saved most b h = omega (arith, length-fields saved (fieldsOf (Ended count)), unsigned-most count)
 
 -- a line that is written has room
 pub written-room : (r : Reply) (saved : List ℕ) (room n : ℕ) → writeLine r saved room ≡ line-of.Bytes n → n ≤ room

@@ -4,4 +4,3 @@ pub mod InPlaceSteps
 pub mod Patches
 pub mod RoundTrip
 pub mod Signed
-pub mod Tabulated

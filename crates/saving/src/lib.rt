@@ -1,12 +1,11 @@
 // Saving a state, and the calls on a lent slice that rewrite it: document 01, "Commands". A snapshot is the paper's group.
 mod bytes;
 pub mod in_place;
-mod lengths;
 pub mod promises;
 mod writing;
 
-use lengths::size_of;
 use snapshot::Length;
+use snapshot::layout::size_of;
 use state::Outcome;
 use state::SHORT_BUFFER;
 use state::State;
@@ -24,7 +23,7 @@ pub fn bytes_needed(s: State) -> Length
     if code != 0 {
         return Length::Rejected(code);
     }
-    Length::Bytes(size_of(s.period as usize))
+    Length::Bytes(size_of(s.period))
 }
 
 // Writes the snapshot of a state at the front of a buffer: the state is checked first, then the room, before anything is written.
@@ -36,7 +35,7 @@ pub fn save(s: State, buffer: &mut [u8]) -> Outcome
     if code != 0 {
         return Outcome::Rejected(code);
     }
-    if buffer.len() < size_of(s.period as usize) {
+    if buffer.len() < size_of(s.period) {
         return Outcome::Rejected(SHORT_BUFFER);
     }
     write_snapshot(buffer, s);

@@ -1,9 +1,11 @@
-// Where each command of a snapshot stands: these numbers stand nowhere else.
+// Where each command of a snapshot stands, and how long it is: these numbers stand nowhere else.
 use super::table::LEVEL_LENGTH;
 use super::table::MODEL_LENGTH;
+use super::table::POSITION_LENGTH;
 use super::table::SEASON_LENGTH;
+use models::MAX_PERIOD;
 ghost use mathlib.Core.Path.{_≡_};
-ghost use Rattle.snapshot.specs.Layout.{seasonAt};
+ghost use Rattle.snapshot.specs.Layout.{seasonAt, sizeOf};
 
 pub const MODEL_AT: usize = 0;
 
@@ -33,4 +35,17 @@ pub fn season_at(k: u8) -> usize
     ensures { λ r. ⌜ r ≡ seasonAt k ⌝ }
 {
     SEASONS_AT + SEASON_LENGTH * (k as usize)
+}
+
+// The commands of every snapshot, 10, 11 and 13: its length without season values.
+const FIXED_LENGTH: usize = SEASONS_AT + POSITION_LENGTH;
+
+// The longest snapshot.
+pub const MAX_SIZE: usize = FIXED_LENGTH + SEASON_LENGTH * (MAX_PERIOD as usize);
+
+// The length of a snapshot with m season values.
+pub fn size_of(m: u8) -> usize
+    ensures { λ r. ⌜ r ≡ sizeOf m ⌝ }
+{
+    FIXED_LENGTH + SEASON_LENGTH * (m as usize)
 }

@@ -16,13 +16,10 @@ returns c =
     let n = ne-eqb _ _ (c .if1 .taken) in
     rw (← (c .before .check .ensures), n, n) (refl, refl)
 
-size-of-requires : tie.Need-size-of-requires
-size-of-requires c κs = omega (arith, bounded _ (sym (c .before .before .check .ensures) ∙ c .before .if1 .left) .period)
-
 returns-2 : tie.Need-returns-2
 unfolding save saveCode savedBytes
 returns-2 c =
-    let k = c .before .before .before in
+    let k = c .before .before in
     let a = k .before .before .before .args in
     let e = k .before .check .ensures in
     let n = eq-eqb _ _ (k .if1 .left) in
@@ -31,14 +28,14 @@ returns-2 c =
 
 write-snapshot-requires : tie.Need-write-snapshot-requires
 write-snapshot-requires c κs =
-    let k = c .before .before .before .before in
+    let k = c .before .before .before in
     (bounded _ (sym (k .before .check .ensures) ∙ k .if1 .left) .period, omega (arith, c .before .before .size-of .ensures))
 
 returns-3 : tie.Need-returns-3
 unfolding save saveCode savedBytes
 returns-3 c =
     let w = c .before .before in
-    let k = w .before .before .before .before .before in
+    let k = w .before .before .before .before in
     let a = k .before .before .before .args in
     let e = k .before .check .ensures in
     let n = eq-eqb _ _ (k .if1 .left) in
@@ -52,7 +49,6 @@ save-spec =
     (λ c κs. search needs)
     returns
     (λ c. search needs)
-    size-of-requires
     returns-2
     write-snapshot-requires
     (λ c. search needs)

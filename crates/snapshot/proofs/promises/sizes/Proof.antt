@@ -1,0 +1,9 @@
+use native.Mathlib.Omega.{arith}
+use Rattle.snapshot.proofs.promises.sizes.Statement.{statement}
+use Rattle.snapshot.proofs.promises.sizes.Tie as tie
+
+returns : tie.Need-returns
+returns c m = omega arith
+
+pub sizes-spec : {M : Type 1} → statement M
+sizes-spec = tie.close (tie.spec returns)
