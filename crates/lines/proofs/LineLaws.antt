@@ -59,7 +59,7 @@ savedCount (Saved n) = n
 savedCount (Rejected code offset) = 0
 savedCount (Ended count) = 0
 
--- a line of numbers has no more than 65 bytes, as many as one of 31 that were saved
+-- a line of numbers has no more than 65 bytes, as many as that of a save of 31
 pub line-most : (r : Reply) (saved : List ℕ) (most : ℕ) → 31 ≤ most → savedCount r ≤ most → length (lineOf r saved) ≤ 3 + 2 * most
 unfolding lineOf
 line-most (Opened model m) saved most b h = omega (arith, length-fields saved (fieldsOf (Opened model m)), unsigned-most model, unsigned-most m)

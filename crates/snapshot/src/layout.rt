@@ -1,4 +1,4 @@
-// Where each command of a snapshot stands, and how long it is: these numbers stand nowhere else.
+// Where each command of a snapshot stands, and how long a snapshot is: these numbers stand nowhere else.
 use super::table::LEVEL_LENGTH;
 use super::table::MODEL_LENGTH;
 use super::table::POSITION_LENGTH;
@@ -40,7 +40,7 @@ pub fn season_at(k: u8) -> usize
 // The commands of every snapshot, 10, 11 and 13: its length without season values.
 const FIXED_LENGTH: usize = SEASONS_AT + POSITION_LENGTH;
 
-// The longest snapshot.
+// The length of the longest snapshot.
 pub const MAX_SIZE: usize = FIXED_LENGTH + SEASON_LENGTH * (MAX_PERIOD as usize);
 
 // The length of a snapshot with m season values.
