@@ -48,8 +48,10 @@ enum {
  * *residual. Refusals: 2 to 10 of the group, 3 for any byte after it, then 13, 14, 15. */
 uint8_t forecaster_step(uint8_t *group, size_t length, int32_t reading, int64_t *residual);
 
-/* A missing reading: leaves l, b and the season values as they were, moves p and adds one to the count. An accepted one
- * rewrites the group. Refusals: 2 to 10 of the group, 3 for any byte after it, then 14. */
+/* A missing reading: a model with trend goes on as its own forecast does, so that the forecast for h after it is the one
+ * for h + 1 before it: l becomes l + d and b becomes d, which is F * b / 65536 to the nearest grain, halves up. Without
+ * trend l and b stay. The season values stay, p moves on and the count rises by one. An accepted one rewrites the group.
+ * Refusals: 2 to 10 of the group, 3 for any byte after it, then 14, 15. */
 uint8_t forecaster_missing(uint8_t *group, size_t length);
 
 /* The forecast for horizon h, 1 to 512, in grains, into *value. The group is not written. Refusals: 2 to 10 of the

@@ -1,6 +1,6 @@
-/* Document 01 in C, written from that paper and not from the proved code: the station's calls, and those for a batch, all
- * horizons and the weight, on a slice that holds one group. The group is checked where it lies and only what a call moves
- * is written. The tests compare the proved calls with these, and the benchmark measures both.
+/* Documents 01 and 02 in C, written from those papers and not from the proved code: the station's calls, and those for a
+ * batch, all horizons and the weight, on a slice that holds one group. The group is checked where it lies and only what a
+ * call moves is written. The tests compare the proved calls with these, and the benchmark measures both.
  *
  * Each call returns 0 or the number of the first refusal in checking order: 2 to 10 of the group, 3 for any byte after it,
  * then the call's own. A refused call writes nothing, but for a batch: see there. */

@@ -34,7 +34,7 @@ static const char *const names[CALLS] = {"step", "missing", "forecast", "batch",
 #define BIT(code) (1u << (code))
 #define OF_A_GROUP (BIT(11) - BIT(2)) /* 2 to 10 */
 #define OF_A_READING (BIT(13) | BIT(14) | BIT(15))
-static const unsigned refusals[CALLS] = {OF_A_GROUP | OF_A_READING,           OF_A_GROUP | BIT(14),           OF_A_GROUP | BIT(11),
+static const unsigned refusals[CALLS] = {OF_A_GROUP | OF_A_READING,           OF_A_GROUP | BIT(14) | BIT(15), OF_A_GROUP | BIT(11),
                                          OF_A_GROUP | BIT(12) | OF_A_READING, OF_A_GROUP | BIT(11) | BIT(12), OF_A_GROUP | BIT(11)};
 static unsigned long given[CALLS][256];
 
@@ -274,7 +274,22 @@ static void listed_cases(void) {
     expect(forecaster_missing(at, n) == 0, "the missing reading");
     st.p = 0, st.count = 2;
     expect_state(at, st);
-    calls += 12;
+    what = "W-202: a missing reading in a warming room, straight and damped";
+    st = plain(5, 2), st.l = 655360, st.b = 65536, st.p = 1;
+    n = ref_group(&st, bytes);
+    at = lend(groups, bytes, n);
+    expect(forecaster_forecast(at, n, 3, &number) == 0 && number == 655360 + 3 * 65536 - 2 * 65536, "forecast 3 before it");
+    expect(forecaster_missing(at, n) == 0, "the missing reading");
+    st.l = 720896, st.p = 0, st.count = 1;
+    expect_state(at, st);
+    expect(forecaster_forecast(at, n, 2, &number) == 0 && number == 655360 + 3 * 65536 - 2 * 65536, "forecast 2 after it is forecast 3 before");
+    st = plain(2, 0), st.F = 32768, st.b = 3;
+    n = ref_group(&st, bytes);
+    at = lend(groups, bytes, n);
+    expect(forecaster_missing(at, n) == 0, "the missing reading");
+    st.l = 2, st.b = 2, st.count = 1;
+    expect_state(at, st);
+    calls += 16;
 }
 
 /* ---- refusals 2, 3 and 4 at every place of every kind of group */
@@ -479,6 +494,20 @@ static void operands(void) {
     n = ref_group(&st, bytes);
     expect(try_step(bytes, n, 1000000) == FORECASTER_LEAVES_RANGE, "a level left its range");
     expect(try_batch(bytes, n, batch + 3, 1, 1) == FORECASTER_LEAVES_RANGE, "a level left its range");
+    expect(try_missing(bytes, n) == FORECASTER_LEAVES_RANGE, "a level left its range");
+    expect(try_batch(bytes, n, batch + 1, 1, 1) == FORECASTER_LEAVES_RANGE, "a level left its range");
+    st.b = 0;
+    n = ref_group(&st, bytes);
+    expect(try_missing(bytes, n) == 0, "a level at the end of its range was refused");
+    st.count = full, st.b = 1;
+    n = ref_group(&st, bytes);
+    expect(try_missing(bytes, n) == FORECASTER_COUNT_FULL, "14 comes before 15");
+    expect(try_batch(bytes, n, batch + 1, 1, 1) == FORECASTER_COUNT_FULL, "14 comes before 15");
+    what = "a batch that a missing reading halts";
+    const int32_t rising[] = {mark, mark, mark, 0};
+    st = plain(1, 0), st.A = 0, st.B = 0, st.l = range - 2000, st.b = 1000;
+    n = ref_group(&st, bytes);
+    expect(try_batch(bytes, n, rising, 4, 5) == FORECASTER_LEAVES_RANGE, "a level left its range");
     what = "a new trend or season value";
     st = plain(1, 0), st.A = 0, st.B = 65536, st.l = -range;
     n = ref_group(&st, bytes);

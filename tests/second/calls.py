@@ -233,6 +233,12 @@ def steps(t):
             t.use(State(model=1, F=65536, l=edge, b=sign))
             t.step(0)
             t.missing()
+            t.use(replace(t.state, count=C))
+            t.missing()
+            t.use(State(model=6, m=2, F=32768, l=edge, b=sign * 3, s=cells(V, -V), p=1))
+            t.missing()
+            t.keep()
+            t.missing()
             t.use(State(model=1, B=65536, F=65536, b=edge))
             t.step(sign)
             t.use(State(model=4, m=2, G=65536, s=cells(edge, 0), l=-edge))
@@ -261,11 +267,14 @@ def batches(t):
             t.batch([20, mark, 21], 4)
             t.batch([mark, 20, 1_000_001], 3)
             t.batch([], 1)
-    # Refusal 15 after some readings: the trend carries the level out.
+    # Refusal 15 after some readings, missing ones among them: the trend carries the level out.
     for sign in (1, -1):
-        for k in range(3):
+        for k in range(4):
             t.use(State(model=1, F=65536, l=sign * (V - k * 1000), b=sign * 1000))
-            t.batch([0, mark, 0, 0, 0, 0], 6)
+            t.batch([0, mark, 0, mark, 0, 0], 6)
+            t.batch([mark] * 5, 7)
+            t.use(State(model=6, m=2, F=60000, l=sign * (V - k * 1000), b=sign * 1000, s=cells(7, -7)))
+            t.batch([mark] * 5, 7)
     t.use(nominal(6, 48))
     t.batch([15 + (k * k) % 13 for k in range(100)], 100)
 

@@ -150,6 +150,8 @@ def order():
     for y in (1_000_001, 1_000_000, 0):
         yield join(full, (0x20, y))
         yield join(full[:-8], (C - 1).to_bytes(8, "little"), (0x20, y))
+    yield join(full, (0x21,))
+    yield join(full[:-8], (C - 1).to_bytes(8, "little"), (0x21,))
     yield join(full, (0x30, 0))
     yield join(full, (0x31, 513, 0))
     # The count's last step, and every command at the count's limit.
@@ -163,6 +165,14 @@ def order():
         yield join(f.group_bytes(x), (0x20, 20), f.group_bytes(replace(x, **bad)))
 
 
+def gaps():
+    """Missing readings one after another, of every model, with the forecasts before and after each; and a gap that is read again."""
+    for model in MODELS:
+        for x in (nominal(model, 3), replace(nominal(model, 3), F=[0, 65536, 1][model & 3], b=[0, 70_001, 32_768][model & 3])):
+            asked = [(0x30, h) for h in (1, 2, 3, 4, 5)]
+            yield join(f.group_bytes(x), *asked, *([(0x21,), *asked, (0x40,)] * 4), (0x20, 20), *asked, (0x21,), (0x20, 21), (0x40,))
+
+
 def leaving():
     """Refusal 15: the level, the trend or a season value would leave its range, upward and downward; and just not."""
     for sign in (1, -1):
@@ -172,6 +182,9 @@ def leaving():
             l = sign * (V - d)
             # With A = 0 the level moves by the trend alone, and with B = 0 the trend stays.
             yield join(f.group_bytes(State(model=1, F=65536, l=l, b=sign)), (0x20, 0), (0x40,))
+            yield join(f.group_bytes(State(model=1, F=65536, l=l, b=sign)), (0x21,), (0x40,), (0x21,), (0x21,), (0x40,))
+            yield join(f.group_bytes(State(model=2, F=32768, l=l, b=sign * 3)), (0x21,), (0x40,), (0x21,), (0x40,))
+            yield join(f.group_bytes(State(model=0, l=l)), (0x21,), (0x40,))
             # With F = 1 and B = 65536 the trend becomes e, which nears 2^37 in one step from level 0.
             yield join(f.group_bytes(State(model=1, B=65536, F=65536, b=l)), (0x20, sign), (0x40,))
             # A season value that moves by e alone: l is far from the reading.
@@ -273,7 +286,7 @@ def longest():
     yield whole + whole
 
 
-PLAYED = [document, models, edges, operands, order, leaving, places, saves, damaged, long_runs]
+PLAYED = [document, models, edges, operands, order, gaps, leaving, places, saves, damaged, long_runs]
 
 
 def records():

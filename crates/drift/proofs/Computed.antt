@@ -10,7 +10,7 @@ use borrow.Author.Tests.{eq-eqb}
 use Rattle.state.specs.Fixed.{R, share}
 use Rattle.integers.specs.Below.{allBelow}
 use Rattle.state.specs.States.{check}
-use Rattle.ets.specs.Steps.{dampedTrend, seasonDue, newLevel, newTrend, newSeason, newSeasonal, nextIndex, stepCode, missingCode, step, missing, residual}
+use Rattle.ets.specs.Steps.{dampedTrend, seasonDue, newLevel, newTrend, newSeason, newSeasonal, nextIndex, stepCode, advanced, missingCode, step, missing, residual}
 use Rattle.ets.specs.Batches.{takeCode, afterTake, run, batchRun, batch, batchLevels}
 use Rattle.forecasts.specs.Forecasts.{trendAt, trendLine, seasonAt, forecastOf, forecastList, forecastTo, forecastCellsTo, forecastsTo, forecastCodeTo, forecastsCodeTo}
 use Rattle.snapshot.specs.Bytes.{fromBytes}
@@ -52,15 +52,17 @@ refused =
       damped-one = λ h. le→leb _ _ h;
       damped-two = λ h. le→leb _ _ h;
       step = λ h. le→leb _ _ h;
+      missing = λ h. le→leb _ _ h;
+      missing-flat = λ h. le→leb _ _ h;
       damped-last = λ h. le→leb _ _ h;
     }
 
 attained : Attained
-unfolding creep after beside result check allBelow R share dampedTrend seasonDue residual newLevel newTrend newSeason newSeasonal nextIndex stepCode step trendAt trendLine seasonAt forecastOf exactDamped exactResidual adjusted exactSeason exactTrendAt exactLine exactForecast exactAfter
-attained = record { half = refl; plain-sixteen = refl; step = leb→le _ _ tt; damped-one = refl; damped-eight = leb→le _ _ tt }
+unfolding creep after beside result check allBelow R share dampedTrend seasonDue residual newLevel newTrend newSeason newSeasonal nextIndex advanced stepCode step trendAt trendLine seasonAt forecastOf exactDamped exactResidual adjusted exactSeason exactTrendAt exactLine exactForecast exactAfter
+attained = record { half = refl; plain-sixteen = refl; step = leb→le _ _ tt; missing = refl; damped-one = refl; damped-eight = leb→le _ _ tt }
 
 needed : Needed
-unfolding AtMost WithinLimit falling gaps after beside result check allBelow R share dampedTrend seasonDue residual newLevel newTrend newSeason newSeasonal nextIndex stepCode step missingCode missing trendAt trendLine seasonAt forecastOf forecastCodeTo forecastTo exactDamped exactResidual adjusted exactSeason exactTrendAt exactLine exactForecast exactAfter expected
+unfolding AtMost WithinLimit falling gaps after beside result check allBelow R share dampedTrend seasonDue residual newLevel newTrend newSeason newSeasonal nextIndex stepCode step advanced missingCode missing trendAt trendLine seasonAt forecastOf forecastCodeTo forecastTo exactDamped exactResidual adjusted exactSeason exactTrendAt exactLine exactForecast exactAfter expected
 needed =
     record {
       level-alone = (refl, refl, λ h. le→leb _ _ h);
@@ -79,7 +81,7 @@ unfolding AtMost R share dampedTrend seasonDue residual newLevel newTrend newSea
 stepped = record { level = leb→le _ _ tt; trend = leb→le _ _ tt; seasons = λ k l. absurd (omega arith) }
 
 shown : Shown
-unfolding compared calls result check allBelow R share dampedTrend seasonDue residual newLevel newTrend newSeason newSeasonal nextIndex stepCode missingCode step missing takeCode afterTake run batchRun batch batchLevels trendAt trendLine seasonAt forecastOf forecastCodeTo forecastTo forecastList forecastsCodeTo forecastsTo forecastCellsTo fromBytes toBytes commandSize isCommand dueCode modelCode levelCode seasonCode scanSeasons positionCode scan cellsAt decoded modelBytes levelBytes seasonBytes seasonsBytes positionBytes encoded inPlaceCode inPlaceStepCode inPlaceStepBytes inPlaceMissingCode inPlaceMissingBytes inPlaceForecastCode inPlaceForecast exactDamped exactResidual adjusted exactSeason exactTake exactBatch exactTrendAt exactLine exactForecast exactAfter expectedLevels expectedForecasts expected
+unfolding compared calls result check allBelow R share dampedTrend seasonDue residual newLevel newTrend newSeason newSeasonal nextIndex stepCode advanced missingCode step missing takeCode afterTake run batchRun batch batchLevels trendAt trendLine seasonAt forecastOf forecastCodeTo forecastTo forecastList forecastsCodeTo forecastsTo forecastCellsTo fromBytes toBytes commandSize isCommand dueCode modelCode levelCode seasonCode scanSeasons positionCode scan cellsAt decoded modelBytes levelBytes seasonBytes seasonsBytes positionBytes encoded inPlaceCode inPlaceStepCode inPlaceStepBytes inPlaceMissingCode inPlaceMissingBytes inPlaceForecastCode inPlaceForecast exactDamped exactResidual adjusted exactSeason exactTake exactBatch exactTrendAt exactLine exactForecast exactAfter expectedLevels expectedForecasts expected
 shown = record { step = stepped; opens = opens; holds = demand3 opening opens calls; short = refl; compares = refl }
 
 pub pins : Pins

@@ -16,7 +16,7 @@ use Rattle.drift.proofs.Averages.{D, zeroD, Same}
 use Rattle.drift.proofs.Spread.{spread-up, spread-down, more}
 use Rattle.drift.proofs.Errors.{parts, addD, err, Both}
 use Rattle.state.proofs.Passing.{no-trend, with-season}
-use Rattle.drift.proofs.Readings.{power, valueAt, levelErr, seasonErr}
+use Rattle.drift.proofs.Readings.{power, even, valueAt, levelErr, seasonErr}
 use Rattle.drift.proofs.ForecastErrors.{flat-line}
 use Rattle.drift.proofs.Invariant.{Good}
 use Rattle.drift.specs.Exact.{Parameters, parametersOf, Exact, exactTrendAt, exactLine, exactForecast, expectedForecast}
@@ -198,5 +198,5 @@ module _ (s : State) (x : Exact) (h : ℕ) (w : Good (parametersOf s) s x) where
   pub forecast-close : WithinLimit (parametersOf s) (forecastOf s h) (expectedForecast (parametersOf s) x h)
   unfolding WithinLimit f
   forecast-close z =
-      rw exact
+      rw (exact, even (parametersOf s) x (w .flat))
       ((λ e. stretch 65536 (2 * s .alpha) (2 * x .n) h (forecastOf s h) F (plain e)), (λ e. stretch _ _ (2 * x .n) h (forecastOf s h) F (any-gain e z)))

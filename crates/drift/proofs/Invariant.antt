@@ -13,6 +13,8 @@ use Rattle.state.specs.States.{check}
 use Rattle.state.specs.declared.State.{State}
 use Rattle.state.proofs.Passing.{bounded, no-season, with-season}
 use Rattle.ets.specs.Steps.{termsOf, nextIndex, newSeason, newSeasonal, residualOf, afterReading, afterMissing}
+use Rattle.ets.specs.Promises.{held}
+use Rattle.ets.proofs.MissingLaws.{after-held}
 use Rattle.drift.proofs.Averages.{D, negD, zeroD, Same, StepBelow, half-mix, half-keep, plain-mix}
 use Rattle.drift.proofs.Cycles.{CycleInvariant, negs, inv-step, inv-wrap}
 use Rattle.drift.proofs.Errors.{parts, err, Both}
@@ -148,9 +150,18 @@ module _ (s : State) (x : Exact) (w : Good (parametersOf s) s x) where
           cycle = λ h a g z. subst (λ (P : ℕ). CycleInvariant 4294967296 (65536 * (65536 - s .alpha)) (65536 * s .gamma) (s .period) P (nextIndex (s .period) (s .index)) (levelErr s′ x′) (seasonErr s′ x′)) grown (cycle′ h a g z);
         }
 
-  -- ---- a missing reading accepted
-  pub good-missing : check (afterMissing s) ≡ 0 → Good (parametersOf s) (afterMissing s) (exactMissing (parametersOf s) x)
-  good-missing ok =
+  -- ---- a missing reading accepted: without trend it only moves p
+  x″ : Exact
+  x″ =
+      record { L = x .L; T = x .T; S = x .S; p = nextIndex (s .period) (x .p); n = x .n; missed = suc (x .missed) }
+
+  exact-held : exactMissing (parametersOf s) x ≡ x″
+  unfolding x″
+  exact-held = rw (w .flat)
+
+  held-good : check (held s) ≡ 0 → Good (parametersOf s) (held s) x″
+  unfolding x″
+  held-good ok =
       record {
         passes = ok;
         cells = w .cells;
@@ -162,3 +173,9 @@ module _ (s : State) (x : Exact) (w : Good (parametersOf s) s x) where
         plain = w .plain;
         cycle = λ h a g z. absurd (omega arith);
       }
+
+  pub good-missing : check (afterMissing s) ≡ 0 → Good (parametersOf s) (afterMissing s) (exactMissing (parametersOf s) x)
+  good-missing ok =
+      let e = after-held s (w .flat) (w .passes) in
+      subst (λ (z : Exact). Good (parametersOf s) (afterMissing s) z) (sym exact-held)
+      (subst (λ (t : State). Good (parametersOf s) t x″) (sym e) (held-good (rw e at ok)))

@@ -19,7 +19,7 @@ use Rattle.ets.specs.Steps.{termsOf, dampedTrend, seasonDue, residualOf, newLev
 use Rattle.drift.proofs.Averages.{D, negD, mix, zeroD, Same, scaleD, StepBelow}
 use Rattle.drift.proofs.Cycles.{negs}
 use Rattle.drift.proofs.Errors.{parts, addD, err, Both, residual-error, corrected-both}
-use Rattle.drift.specs.Exact.{Parameters, Exact, parametersOf, exactDamped, exactReading, exactResidual, exactSeason, adjusted}
+use Rattle.drift.specs.Exact.{Parameters, Exact, parametersOf, exponent, exactDamped, exactReading, exactResidual, exactSeason, adjusted}
 
 abbrev pub power : Exact → ℕ
 power x = 65536 ^ (2 * x .n)
@@ -68,14 +68,22 @@ kept-law z e = rw (known z, known e) (simp diff (omega arith))
 plus-none : (z d : ℤ) → d ≡ pos 0 → z +ℤ d ≡ z
 plus-none z d h = rw (h, known z) (simp diff (omega arith))
 
+-- without trend the exact values are over two powers a reading
+pub even : (c : Parameters) (x : Exact) → c .trended ≡ false → exponent c x ≡ 2 * x .n
+even c x flat = rw flat (omega arith)
+
 -- the exact values at the place where the state stands
-module _ (c : Parameters) (x : Exact) (y : ℤ) (p : ℕ) (still : exactDamped c x ≡ pos 0) (same-p : x .p ≡ p) (none : c .seasonal ≡ false → (c .gamma ≡ 0) × ((k : ℕ) → x .S k ≡ pos 0)) where
+module _ (c : Parameters) (x : Exact) (y : ℤ) (p : ℕ) (flat : c .trended ≡ false) (same-p : x .p ≡ p) (none : c .seasonal ≡ false → (c .gamma ≡ 0) × ((k : ℕ) → x .S k ≡ pos 0)) where
   abbrev E : ℤ
   E = pos (power x) *ℤ (pos 65536 *ℤ y) -ℤ x .L -ℤ x .S p
 
+  still : exactDamped c x ≡ pos 0
+  unfolding exactDamped
+  still = rw flat
+
   residual-at : exactResidual c x y ≡ pos 65536 *ℤ E
   unfolding exactResidual
-  residual-at = rw (still, same-p, pow-succ' 65536 (2 * x .n)) (residual-law (power x) (x .L) (x .S p) y)
+  residual-at = rw (even c x flat, still, same-p, pow-succ' 65536 (2 * x .n)) (residual-law (power x) (x .L) (x .S p) y)
 
   L-new : exactReading c x y .L ≡ pos 4294967296 *ℤ x .L +ℤ pos (65536 * c .alpha) *ℤ E
   L-new = rw residual-at (adjusted-law (c .alpha) (x .L) (pos 65536 *ℤ x .L +ℤ exactDamped c x) E (plus-none (pos 65536 *ℤ x .L) (exactDamped c x) still))
@@ -136,11 +144,7 @@ module _ (s : State) (x : Exact) (y : ℤ) (B C : ℕ) (hA : 65536 * s .alpha + 
   unfolding dampedTrend
   flat = rw trendless
 
-  still : exactDamped (parametersOf s) x ≡ pos 0
-  unfolding exactDamped
-  still = rw trendless
-
-  residuals : Same (addD (err (power x) (parts (residualOf s y)) (parts (E (parametersOf s) x y (s .index) still same-p none))) (addD (err (power x) (parts (s .level)) (parts (x .L))) (err (power x) (parts (valueAt s (s .index))) (parts (x .S (s .index)))))) zeroD
+  residuals : Same (addD (err (power x) (parts (residualOf s y)) (parts (E (parametersOf s) x y (s .index) trendless same-p none))) (addD (err (power x) (parts (s .level)) (parts (x .L))) (err (power x) (parts (valueAt s (s .index))) (parts (x .S (s .index)))))) zeroD
   unfolding residual seasonDue
   residuals =
       residual-error (power x) (residualOf s y) (s .level) (dampedTrend s) (seasonDue s) (x .L) (x .S (s .index)) y flat refl
@@ -149,19 +153,19 @@ module _ (s : State) (x : Exact) (y : ℤ) (B C : ℕ) (hA : 65536 * s .alpha + 
   unfolding s′ x′
   there k h =
       rw (power-next (x .n))
-      (kept (power x) (valueAt s k) (valueAt (afterReading s y) k) (x .S k) (exactReading (parametersOf s) x y .S k) (value-other s (residualOf s y) flat (λ h. none h .0) fits k h) (S-there (parametersOf s) x y (s .index) still same-p none k h))
+      (kept (power x) (valueAt s k) (valueAt (afterReading s y) k) (x .S k) (exactReading (parametersOf s) x y .S k) (value-other s (residualOf s y) flat (λ h. none h .0) fits k h) (S-there (parametersOf s) x y (s .index) trendless same-p none k h))
 
   levels : Both (4294967296 * power x) (levelErr s′ x′) (mix (65536 * B) (levelErr s x) (65536 * s .alpha) (seasonErr s x (s .index)))
   unfolding s′ x′
   levels =
       rw (power-next (x .n))
-      (corrected-both (power x) (s .alpha) B hA (residualOf s y) (E (parametersOf s) x y (s .index) still same-p none) (s .level) (x .L) (valueAt s (s .index)) (x .S (s .index)) (s′ .level) (x′ .L) (level-new s (residualOf s y) flat (λ h. none h .0) fits) (L-new (parametersOf s) x y (s .index) still same-p none) residuals)
+      (corrected-both (power x) (s .alpha) B hA (residualOf s y) (E (parametersOf s) x y (s .index) trendless same-p none) (s .level) (x .L) (valueAt s (s .index)) (x .S (s .index)) (s′ .level) (x′ .L) (level-new s (residualOf s y) flat (λ h. none h .0) fits) (L-new (parametersOf s) x y (s .index) trendless same-p none) residuals)
 
   values : Both (4294967296 * power x) (negD (seasonErr s′ x′ (s .index))) (mix (65536 * C) (negD (seasonErr s x (s .index))) (65536 * s .gamma) (negD (levelErr s x)))
   unfolding s′ x′
   values =
       rw (power-next (x .n))
-      (corrected-both (power x) (s .gamma) C hG (residualOf s y) (E (parametersOf s) x y (s .index) still same-p none) (valueAt s (s .index)) (x .S (s .index)) (s .level) (x .L) (valueAt s′ (s .index)) (x′ .S (s .index)) (value-new s (residualOf s y) flat (λ h. none h .0) fits) (S-here (parametersOf s) x y (s .index) still same-p none) (swapped _ _ _ residuals))
+      (corrected-both (power x) (s .gamma) C hG (residualOf s y) (E (parametersOf s) x y (s .index) trendless same-p none) (valueAt s (s .index)) (x .S (s .index)) (s .level) (x .L) (valueAt s′ (s .index)) (x′ .S (s .index)) (value-new s (residualOf s y) flat (λ h. none h .0) fits) (S-here (parametersOf s) x y (s .index) trendless same-p none) (swapped _ _ _ residuals))
 
   pub reading-below : StepBelow 4294967296 (65536 * s .alpha) (65536 * B) (65536 * s .gamma) (65536 * C) (power x) (s .index) (levelErr s x) (seasonErr s x) (levelErr (afterReading s y) (exactReading (parametersOf s) x y)) (seasonErr (afterReading s y) (exactReading (parametersOf s) x y))
   unfolding s′ x′

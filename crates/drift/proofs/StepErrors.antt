@@ -6,7 +6,7 @@ use Prim.Native.Nat.{ℕ, _+_, _*_, _-_, _^_, _≤_, _<_}
 use native.Mathlib.Nat.{le-refl}
 use native.Mathlib.Decide.{ℕ-discrete}
 use native.Mathlib.Omega.{arith}
-use lib.IntN.{ℤ, pos, negsuc, natAbs, _+ℤ_, _-ℤ_, _*ℤ_}
+use lib.IntN.{ℤ, pos, negsuc, natAbs, _+ℤ_, _-ℤ_, _*ℤ_, +ℤ-idr}
 use lib.ListN.{length, getD}
 use lib.Seq.{getD-set-same, getD-set-other}
 use Rattle.integers.specs.Bounds.{Within}
@@ -16,12 +16,12 @@ use Rattle.state.specs.Fixed.{share}
 use Rattle.models.specs.Models.{hasTrend, hasSeason}
 use Rattle.state.specs.States.{check}
 use Rattle.state.specs.declared.State.{State}
-use Rattle.state.proofs.Passing.{bounded, no-season}
+use Rattle.state.proofs.Passing.{bounded, no-trend, no-season}
 use Rattle.state.proofs.Rounding.{share-error}
-use Rattle.ets.specs.Steps.{termsOf, dampedTrend, seasonDue, residualOf, newLevel, newTrend, newSeason, newSeasonal, afterReading, residual}
+use Rattle.ets.specs.Steps.{termsOf, dampedTrend, seasonDue, residualOf, newLevel, newTrend, newSeason, newSeasonal, afterReading, advanced, residual}
 use Rattle.drift.specs.Exact.{Parameters, parametersOf, Exact, opened, exactDamped, exactResidual, adjusted, exactReading}
 use Rattle.drift.specs.Limits.{AtMost}
-use Rattle.drift.specs.Components.{StepErrors}
+use Rattle.drift.specs.Components.{StepErrors, MissingErrors}
 use Rattle.drift.proofs.Components.{season-here, season-there}
 
 -- ---- a value v and its exact Z, corrected by a residual that is as far from the exact one; r is the rounded share of the gain g, of which C is the rest
@@ -59,6 +59,10 @@ module _ (g : ℕ) (hg : g ≤ 65536) (e η E : ℤ) (apart : E ≡ pos 65536 *�
       (within-sub (within-mul (le-refl 65536) (share-error g e)) (within-mul (le-refl g) small)))
 
 -- ---- the step from a state
+none-missed : (b : Bool) → _≡_ {A = ℕ} (cond b 0 0) 0
+none-missed true = refl
+none-missed false = refl
+
 damped-apart : (b : Bool) (F : ℕ) (t : ℤ) → Within 65536 (pos 2 *ℤ (pos 65536 *ℤ cond b (share F t) (pos 0) -ℤ cond b (pos F *ℤ t) (pos 0)))
 damped-apart true F t = share-error F t
 damped-apart false F t = within-zero 65536
@@ -92,7 +96,7 @@ module _ (s : State) (full : length (s .seasonal) ≡ 48) (ok : check s ≡ 0) (
 
   residuals : exactResidual c x y ≡ pos 65536 *ℤ residualOf s y +ℤ η
   unfolding exactResidual residual seasonDue
-  residuals = residual-law (s .level) (dampedTrend s) (exactDamped c x) (x .S (s .index)) y
+  residuals = rw (none-missed (hasTrend (s .model))) (residual-law (s .level) (dampedTrend s) (exactDamped c x) (x .S (s .index)) y)
 
   level : AtMost 1 1 2 (afterReading s y .level) (exactReading c x y .L)
   unfolding newLevel
@@ -133,3 +137,46 @@ module _ (s : State) (full : length (s .seasonal) ≡ 48) (ok : check s ≡ 0) (
 
 pub step-errors : StepErrors
 step-errors s full ok y = record { level = level s full ok y; trend = trend s full ok y; seasons = seasons s full ok y }
+
+-- ---- a missing reading from a state
+half-unit : (z : ℤ) → Within 65536 (pos 2 *ℤ z) → 2 * natAbs z ≤ 1 * 65536 ^ 1
+half-unit (pos a) w = omega (arith, within-parts w, scaled 2 (pos a))
+half-unit (negsuc a) w = omega (arith, within-parts w, scaled 2 (negsuc a))
+
+none-apart : (v : ℤ) → pos 1 *ℤ v -ℤ v ≡ pos 0
+none-apart v = rw (known v) (simp diff (omega arith))
+
+module _ (s : State) (ok : check s ≡ 0) where
+  -- by cases on the trend, which is b
+  level-skipped : (b : Bool) → AtMost 1 2 (0 + cond b 1 0) (s .level +ℤ cond b (share (s .phi) (s .trend)) (pos 0)) (cond b (pos 65536 *ℤ s .level +ℤ cond b (pos (s .phi) *ℤ s .trend) (pos 0)) (s .level))
+  unfolding AtMost
+  level-skipped true =
+      rw (level-apart (s .level) (share (s .phi) (s .trend)) (pos (s .phi) *ℤ s .trend))
+      (half-unit (pos 65536 *ℤ share (s .phi) (s .trend) -ℤ pos (s .phi) *ℤ s .trend) (share-error (s .phi) (s .trend)))
+  level-skipped false = rw (+ℤ-idr (s .level), none-apart (s .level)) (omega arith)
+
+  trend-skipped : (b : Bool) → hasTrend (s .model) ≡ b → AtMost 1 2 (0 + cond b 1 0) (cond b (share (s .phi) (s .trend)) (pos 0)) (cond b (cond b (pos (s .phi) *ℤ s .trend) (pos 0)) (s .trend))
+  unfolding AtMost
+  trend-skipped true e =
+      half-unit (pos 65536 *ℤ share (s .phi) (s .trend) -ℤ pos (s .phi) *ℤ s .trend) (share-error (s .phi) (s .trend))
+  trend-skipped false e = rw (no-trend s ok e .trend) (omega arith)
+
+  season-skipped : (b t : Bool) (v : ℤ) → t ≡ true → pos (65536 ^ (0 + cond b 1 0)) *ℤ v ≡ cond b (pos 65536 *ℤ cond t v (pos 0)) (cond t v (pos 0))
+  season-skipped true t v e = rw e
+  season-skipped false t v e = rw (e, known v) (simp diff (omega arith))
+
+pub missing-errors : MissingErrors
+unfolding advanced dampedTrend exactDamped
+missing-errors s ok =
+    record {
+      level = level-skipped s ok (hasTrend (s .model));
+      trend = trend-skipped s ok (hasTrend (s .model)) refl;
+      seasons = λ k l. season-skipped s ok (hasTrend (s .model)) (hasSeason (s .model)) (getD (s .seasonal) k (pos 0)) (seasonal l);
+    }
+  where
+    seasonal : {k : ℕ} → k < s .period → hasSeason (s .model) ≡ true
+    seasonal l = go (hasSeason (s .model)) refl
+      where
+        go : (b : Bool) → hasSeason (s .model) ≡ b → b ≡ true
+        go true e = refl
+        go false e = absurd (omega (arith, no-season s ok e .period))

@@ -1,19 +1,19 @@
 -- Document 01, "One step": the exact step of every model is the component form, multiplied out, and the step is within one unit (the paper's grain) of it.
-use Prim.Native.Nat.{ℕ, suc, _*_, _^_, _<_}
+use Prim.Native.Nat.{ℕ, suc, _^_, _<_}
 use mathlib.Core.Bool.{true}
 use mathlib.Core.Path.{_≡_}
 use lib.IntN.{ℤ, pos, _+ℤ_, _-ℤ_, _*ℤ_}
 use lib.ListN.{length, getD}
 use Rattle.state.specs.States.{check}
 use Rattle.state.specs.declared.State.{State}
-use Rattle.ets.specs.Steps.{afterReading}
-use Rattle.drift.specs.Exact.{Parameters, parametersOf, Exact, opened, exactDamped, exactReading}
+use Rattle.ets.specs.Steps.{afterReading, afterMissing}
+use Rattle.drift.specs.Exact.{Parameters, parametersOf, Exact, exponent, opened, exactDamped, exactReading, exactMissing}
 use Rattle.drift.specs.Limits.{AtMost}
 
 module _ (c : Parameters) (x : Exact) (y : ℤ) where
   -- y, l and s over the power of d
   abbrev pub reading : ℤ
-  reading = pos (65536 ^ suc (2 * x .n)) *ℤ (pos 65536 *ℤ y)
+  reading = pos (65536 ^ suc (exponent c x)) *ℤ (pos 65536 *ℤ y)
 
   abbrev pub oldLevel : ℤ
   oldLevel = pos 65536 *ℤ x .L
@@ -54,3 +54,20 @@ pub record StepError (s : State) (y : ℤ) : Type 0 where
 -- of each state that the checks let pass
 abbrev pub StepErrors : Type 0
 StepErrors = (s : State) → length (s .seasonal) ≡ 48 → check s ≡ 0 → (y : ℤ) → StepError s y
+
+-- the exact recursion, opened at a state, after one missing reading
+abbrev pub skipped : State → Exact
+skipped s = exactMissing (parametersOf s) (opened s)
+
+-- half a unit
+abbrev pub HalfUnit : ℕ → ℤ → ℤ → Type 0
+HalfUnit power z Z = AtMost 1 2 power z Z
+
+-- one missing reading from a state, and the exact one from the same state, in l and b; the season values are the exact ones
+pub record MissingError (s : State) : Type 0 where
+  pub level : HalfUnit (exponent (parametersOf s) (skipped s)) (afterMissing s .level) (skipped s .L)
+  pub trend : HalfUnit (exponent (parametersOf s) (skipped s)) (afterMissing s .trend) (skipped s .T)
+  pub seasons : (k : ℕ) → k < s .period → pos (65536 ^ exponent (parametersOf s) (skipped s)) *ℤ getD (afterMissing s .seasonal) k (pos 0) ≡ skipped s .S k
+
+abbrev pub MissingErrors : Type 0
+MissingErrors = (s : State) → check s ≡ 0 → MissingError s

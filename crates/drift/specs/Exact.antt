@@ -1,5 +1,5 @@
 -- Document 01, "One step": the exact recursion of demand 3, which is the step and the forecast with the fraction v/65536 wherever R(v) stands, of every model.
--- A fraction is a whole number over a power of 65536. A reading multiplies by φ and then by a gain, so after n of them L, T and each S are over 65536 ^ (2n).
+-- A missing reading of a model with trend is that of document 02, W-202. A fraction is a whole number over a power of 65536.
 use Prim.Native.Nat.{ℕ, zero, suc, _+_, _*_, _-_, _%_, _^_}
 use mathlib.Core.Bool.{Bool, cond}
 use mathlib.Core.List.{List, [], _∷_, _++_}
@@ -43,6 +43,10 @@ pub record Exact : Type 0 where
   pub n : ℕ
   pub missed : ℕ
 
+-- L, T and each S are over this power of 65536: a reading multiplies by φ and then by a gain, a missing reading of a model with trend by φ
+abbrev pub exponent : Parameters → Exact → ℕ
+exponent c x = 2 * x .n + cond (c .trended) (x .missed) 0
+
 -- L, T, S and p start as in the opening state, n at 0; without season S is 0
 abbrev pub opened : State → Exact
 opened s =
@@ -62,7 +66,7 @@ exactDamped c x = cond (c .trended) (pos (c .phi) *ℤ x .T) (pos 0)
 -- E = 65536 × y − (L + d + S), over the next power
 unfoldable pub exactResidual : Parameters → Exact → ℤ → ℤ
 exactResidual c x y =
-    pos (65536 ^ suc (2 * x .n)) *ℤ (pos 65536 *ℤ y) -ℤ (pos 65536 *ℤ x .L +ℤ exactDamped c x +ℤ pos 65536 *ℤ x .S (x .p))
+    pos (65536 ^ suc (exponent c x)) *ℤ (pos 65536 *ℤ y) -ℤ (pos 65536 *ℤ x .L +ℤ exactDamped c x +ℤ pos 65536 *ℤ x .S (x .p))
 
 -- z + gain × E, over the power after that
 unfoldable pub adjusted : ℕ → ℤ → ℤ → ℤ
@@ -85,10 +89,17 @@ exactReading c x y =
       missed = x .missed;
     }
 
--- missing reading accepted: p moves as in the step, nothing else changes
+-- missing reading accepted: p moves as in the step, nothing else changes; but with a trend L becomes L + d and T becomes d, over the next power
 abbrev pub exactMissing : Parameters → Exact → Exact
 exactMissing c x =
-    record { L = x .L; T = x .T; S = x .S; p = nextIndex (c .period) (x .p); n = x .n; missed = suc (x .missed) }
+    record {
+      L = cond (c .trended) (pos 65536 *ℤ x .L +ℤ exactDamped c x) (x .L);
+      T = cond (c .trended) (exactDamped c x) (x .T);
+      S = λ k. cond (c .trended) (pos 65536 *ℤ x .S k) (x .S k);
+      p = nextIndex (c .period) (x .p);
+      n = x .n;
+      missed = suc (x .missed);
+    }
 
 -- a reading that a batch took: where marked, a missing one
 unfoldable pub exactTake : Parameters → Exact → ℤ → Exact
@@ -98,12 +109,12 @@ unfoldable pub exactBatch : Parameters → Exact → List ℤ → Exact
 exactBatch c x [] = x
 exactBatch c x (y ∷ ys) = exactBatch c (exactTake c x y) ys
 
--- ---- a forecast. d1 = φ × T, and each next d is φ × the one before: dj is over 65536 ^ (2n + j)
+-- ---- a forecast. d1 = φ × T, and each next d is φ × the one before: dj is over j powers more
 unfoldable pub exactTrendAt : ℕ → ℤ → ℕ → ℤ
 exactTrendAt F b zero = b
 exactTrendAt F b (suc j) = pos F *ℤ exactTrendAt F b j
 
--- L, plus d1 to dh, over 65536 ^ (2n + h)
+-- L, plus d1 to dh, over h powers more
 unfoldable pub exactLine : Parameters → Exact → ℕ → ℤ
 exactLine c x zero = x .L
 exactLine c x (suc h) = pos 65536 *ℤ exactLine c x h +ℤ exactTrendAt (c .phi) (x .T) (suc h)
@@ -127,7 +138,7 @@ pub data Expected : Type 0 where
   forecast-is : (F : ℤ) (power missed : ℕ) → Expected
 
 abbrev pub expectedForecast : Parameters → Exact → ℕ → Expected
-expectedForecast c x h = forecast-is (exactForecast c x h) (2 * x .n + h) (x .missed)
+expectedForecast c x h = forecast-is (exactForecast c x h) (exponent c x + h) (x .missed)
 
 -- L and n right after each reading of a batch
 unfoldable pub expectedLevels : Parameters → Exact → List ℤ → List Expected

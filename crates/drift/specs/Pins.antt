@@ -10,13 +10,13 @@ use lib.ListN.{replicate}
 use Rattle.state.specs.Rejections.{truncated}
 use Rattle.state.specs.States.{stateOf}
 use Rattle.state.specs.declared.State.{State}
-use Rattle.ets.specs.Steps.{afterReading}
+use Rattle.ets.specs.Steps.{afterReading, afterMissing}
 use Rattle.forecasts.specs.Forecasts.{forecastOf}
 use Rattle.snapshot.specs.Slices.{inPlaceCode}
 use Rattle.traces.specs.Calls.{followed, cut, sliceOf, Call, Reading, Missing, Batch, Forecast, Forecasts, InPlaceReading, InPlaceMissing, InPlaceForecast, result, after}
 use Rattle.drift.specs.Exact.{Parameters, parametersOf, Exact, opened, exactReading, exactForecast, exactAfter, Expected, level-is, forecast-is, expected}
 use Rattle.drift.specs.Limits.{distance, SeasonalBound, WithinLimit, Claim, Opening}
-use Rattle.drift.specs.Components.{OneUnit, StepError}
+use Rattle.drift.specs.Components.{OneUnit, StepError, HalfUnit, skipped}
 use Rattle.drift.specs.ForecastErrors.{exactFrom, DampedBound}
 
 -- ---- states, at place 0: a season of m places; a damped trend
@@ -57,6 +57,9 @@ pub record Refused : Type 0 where
   pub season-three : ClaimOf (seasonal 3 16384 65536 (pos 18) []) (standing (pos 0) 36 0 (pos 0)) (Forecast 1 ∷ []) → ⊥
   -- one unit for a step
   pub step : OneUnit (pos 0) (pos (65536 ^ 2 + 1)) → ⊥
+  -- half a unit for a missing reading, with a trend and without
+  pub missing : HalfUnit 1 (pos 0) (pos (65536 / 2 + 1)) → ⊥
+  pub missing-flat : HalfUnit 0 (pos 0) (pos 1) → ⊥
   -- h × (h + 1)/4 at h = 1, 2 and 512: the least distance above it
   pub damped-one : DampedBound 1 (pos 0) (pos (65536 / 2 + 1)) → ⊥
   pub damped-two : DampedBound 2 (pos 0) (pos (3 * 65536 ^ 2 / 2 + 1)) → ⊥
@@ -82,6 +85,8 @@ pub record Attained : Type 0 where
   pub plain-sixteen : 65536 * creep 16 ≡ 65535 * 65536 ^ 32
   -- one unit but for a 65,536th: d is 1 for 1/2, and R(A × e) is 1 for 1/2 and a bit
   pub step : 65535 * 65536 ^ 2 ≤ 65536 * distance 2 (afterReading (damped 1 32768 (pos 32767) (pos 1)) (pos 1) .level) (exactReading (parametersOf (damped 1 32768 (pos 32767) (pos 1))) (opened (damped 1 32768 (pos 32767) (pos 1))) (pos 1) .L)
+  -- half a unit at a missing reading: d is 1 for 1/2
+  pub missing : 2 * distance 1 (afterMissing (damped 0 32768 (pos 0) (pos 1)) .level) (skipped (damped 0 32768 (pos 0) (pos 1)) .L) ≡ 1 * 65536 ^ 1
   -- h × (h + 1)/4: 1/2 at h = 1, and 18 but for 42 65,536ths at h = 8
   pub damped-one : 4 * distance 1 (forecastOf (damped 0 65535 (pos 0) (pos 32768)) 1) (exactFrom (damped 0 65535 (pos 0) (pos 32768)) 1) ≡ 1 * (1 + 1) * 65536 ^ 1
   pub damped-eight : (18 * 65536 - 42) * 65536 ^ 8 ≤ 65536 * distance 8 (forecastOf (damped 0 65535 (pos 0) (pos 32768)) 8) (exactFrom (damped 0 65535 (pos 0) (pos 32768)) 8)

@@ -1,5 +1,5 @@
 // Demand 3 of document 01: rounding does not make a state wander. Each function is a promise: it does nothing, and its contract is a theorem.
-ghost use Rattle.drift.specs.Components.{ComponentForms, StepErrors};
+ghost use Rattle.drift.specs.Components.{ComponentForms, StepErrors, MissingErrors};
 ghost use Rattle.drift.specs.ForecastErrors.{ForecastErrors};
 ghost use Rattle.drift.specs.Limits.{Demand3};
 ghost use Rattle.drift.specs.Pins.{Pins};
@@ -22,6 +22,11 @@ pub fn component_form()
 // The step is within one unit of the exact step, for every model.
 pub fn step_errors()
     ensures { λ _. ⌜ StepErrors ⌝ }
+{}
+
+// A missing reading is within half a unit of the exact one, for every model.
+pub fn missing_errors()
+    ensures { λ _. ⌜ MissingErrors ⌝ }
 {}
 
 // The forecast from the same state is exact without damping, and within h × (h + 1)/4 units with it.

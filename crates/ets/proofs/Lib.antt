@@ -2,3 +2,4 @@ pub mod StepLaws
 pub mod UpdateLaws
 pub mod Kept
 pub mod BatchLaws
+pub mod MissingLaws

@@ -2,3 +2,4 @@ pub mod Steps
 pub mod Batches
 pub mod Updates
 pub mod Bounds
+pub mod Promises

@@ -18,8 +18,8 @@ ghost use Rattle.integers.specs.Bounds.{Within};
 ghost use Rattle.state.specs.Rejections.{unless, _then_, bad-reading};
 ghost use Rattle.state.specs.Fixed.{R, share, inRange, isReading};
 ghost use Rattle.ets.specs.Steps.{residual, nextIndex, countCode};
-ghost use Rattle.ets.specs.Updates.{numbersOf, termsAt, corrections, notUpdated, readingUpdate};
-ghost use Rattle.ets.specs.Bounds.{NumbersIn, TermsIn};
+ghost use Rattle.ets.specs.Updates.{numbersOf, termsAt, corrections, notUpdated, readingUpdate, advance, missingUpdate};
+ghost use Rattle.ets.specs.Bounds.{NumbersIn, AdvanceIn, TermsIn};
 
 // R(v): the sum before the shift makes it round to nearest, halves up.
 fn round(v: i64) -> i64
@@ -138,6 +138,36 @@ pub fn reading_update(n: Numbers, y: i32) -> Update
     } else {
         not_updated(LEAVES_RANGE)
     }
+}
+
+// The numbers that the model itself expects next: a missing reading takes them.
+fn advance(n: Numbers) -> Update
+    requires { ⌜ AdvanceIn n ⌝ }
+    ensures { λ r. ⌜ r ≡ advance (termsAt n) ⌝ }
+{
+    let damped = share(n.phi, n.trend);
+    Update {
+        code: 0,
+        level: n.level + damped,
+        trend: damped,
+        season: n.season,
+        residual: 0,
+    }
+}
+
+// A missing reading: its rejection (14, 15), or the numbers after it.
+pub fn missing_update(n: Numbers) -> Update
+    requires { ⌜ AdvanceIn n ⌝ }
+    ensures { λ r. ⌜ r ≡ missingUpdate n ⌝ }
+{
+    let u = advance(n);
+    let full = count_code(n.count);
+    let out = unless(in_range(u.level), LEAVES_RANGE);
+    let code = first(full, out);
+    if code != 0 {
+        return not_updated(code);
+    }
+    u
 }
 
 // The seasonal index after p.

@@ -2,7 +2,7 @@
 use super::Missed;
 use super::Stepped;
 use super::Update;
-use super::arithmetic::count_code;
+use super::arithmetic::missing_update;
 use super::arithmetic::next_index;
 use super::arithmetic::numbers_of;
 use super::arithmetic::reading_update;
@@ -10,7 +10,6 @@ use state::Answer;
 use state::Outcome;
 use state::State;
 use state::checks::check;
-use state::first;
 ghost use mathlib.Core.Path.{_≡_};
 ghost use Prim.Native.Nat.{_<_};
 ghost use Rattle.state.specs.Fixed.{maxCount};
@@ -24,6 +23,15 @@ fn rejected_step(s: State, n: u8) -> Stepped
     Stepped {
         state: s,
         residual: Answer::Rejected(n),
+    }
+}
+
+fn rejected_missing(s: State, n: u8) -> Missed
+    ensures { λ r. ⌜ r ≡ record { state = s; outcome = Outcome.Rejected n } ⌝ }
+{
+    Missed {
+        state: s,
+        outcome: Outcome::Rejected(n),
     }
 }
 
@@ -65,18 +73,17 @@ pub fn step(s: State, y: i32) -> Stepped
 pub fn missing(s: State) -> Missed
     ensures { λ r. ⌜ r ≡ missing s ⌝ }
 {
-    let n = first(check(s), count_code(s.count));
+    let n = check(s);
     if n != 0 {
-        return Missed {
-            state: s,
-            outcome: Outcome::Rejected(n),
-        };
+        return rejected_missing(s, n);
     }
-    let mut next = s;
-    next.index = next_index(s.period, s.index);
-    next.count = s.count + 1;
+    let u = missing_update(numbers_of(s));
+    let k = u.code;
+    if k != 0 {
+        return rejected_missing(s, k);
+    }
     Missed {
-        state: next,
+        state: store(s, u),
         outcome: Outcome::Accepted,
     }
 }

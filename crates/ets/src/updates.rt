@@ -1,6 +1,7 @@
 // The step on numbers: no state is copied, and no other season value is looked at.
 use super::Numbers;
 use super::Update;
+use super::arithmetic::missing_update;
 use super::arithmetic::not_updated;
 use super::arithmetic::reading_update;
 use models::ONE;
@@ -12,7 +13,7 @@ use state::checks::in_range;
 use state::first;
 use state::unless;
 ghost use mathlib.Core.Path.{_≡_};
-ghost use Rattle.ets.specs.Updates.{gainsOk, rangesOk, numbersCode, update};
+ghost use Rattle.ets.specs.Updates.{gainsOk, rangesOk, numbersCode, update, advanceCode, updateMissing};
 
 fn gains_ok(n: Numbers) -> bool
     ensures { λ r. ⌜ r ≡ gainsOk n ⌝ }
@@ -26,6 +27,7 @@ fn ranges_ok(n: Numbers) -> bool
     in_range(n.level) & in_range(n.trend) & in_range(n.season)
 }
 
+// What rejects the numbers of a reading, or 0.
 fn numbers_code(n: Numbers) -> u8
     ensures { λ r. ⌜ r ≡ numbersCode n ⌝ }
 {
@@ -45,4 +47,27 @@ pub fn update(n: Numbers, y: i32) -> Update
         return not_updated(code);
     }
     reading_update(n, y)
+}
+
+// The same of the numbers that a missing reading has a use for: no gain and no season value is among them.
+fn advance_code(n: Numbers) -> u8
+    ensures { λ r. ⌜ r ≡ advanceCode n ⌝ }
+{
+    let ranges = in_range(n.level) & in_range(n.trend);
+    let values = first(
+        unless(n.phi <= ONE, BAD_PARAMETER),
+        unless(ranges, BAD_VALUE),
+    );
+    first(values, unless(count_ok(n.count), BAD_POSITION))
+}
+
+// A missing reading on the numbers of a state.
+pub fn update_missing(n: Numbers) -> Update
+    ensures { λ r. ⌜ r ≡ updateMissing n ⌝ }
+{
+    let code = advance_code(n);
+    if code != 0 {
+        return not_updated(code);
+    }
+    missing_update(n)
 }

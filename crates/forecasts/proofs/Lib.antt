@@ -1,1 +1,2 @@
 pub mod ForecastLaws
+pub mod MissingLaws

@@ -1,1 +1,2 @@
 pub mod Forecasts
+pub mod Promises

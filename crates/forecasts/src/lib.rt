@@ -1,4 +1,5 @@
 // Forecasts from a state by value: for one horizon, and for all of them into a lent buffer. Document 01, "Forecast and variance".
+pub mod promises;
 mod sums;
 
 use models::ONE;

@@ -11,20 +11,19 @@ use lib.IntN.{ℤ, pos}
 use lib.ListN.{length, getD, set}
 use Rattle.integers.specs.Bounds.{Within}
 use Rattle.integers.proofs.Bounds.{within-zero}
-use Rattle.state.specs.Rejections.{count-full}
 use Rattle.state.specs.Fixed.{maxCount}
 use Rattle.models.specs.Models.{hasSeason}
 use Rattle.state.specs.States.{check, indexOk, countOk}
 use Rattle.state.specs.declared.State.{State}
 use Rattle.state.proofs.Passing.{bounded, no-season, with-season}
 use Rattle.integers.proofs.Tests.{both}
-use Rattle.ets.specs.Steps.{termsOf, residualOf, newLevel, newTrend, newSeason, newSeasonal, nextIndex, afterReading, afterMissing, corrected, stepCode, missingCode}
+use Rattle.ets.specs.Steps.{dampedTrend, termsOf, residualOf, newLevel, newTrend, newSeason, newSeasonal, nextIndex, afterReading, advanced, afterMissing, corrected, stepCode, missingCode}
 use Rattle.forecasts.specs.Forecasts.{seasonAt as seasonAhead}
-use Rattle.ets.specs.Updates.{numbersOf, corrections, update}
+use Rattle.ets.specs.Updates.{numbersOf, corrections, update, advance, updateMissing}
 use Rattle.ets.specs.declared.Numbers.{Numbers}
 use Rattle.ets.specs.declared.Update.{Update}
 use Rattle.ets.proofs.StepLaws.{step-facts}
-use Rattle.ets.proofs.UpdateLaws.{update-code, update-is}
+use Rattle.ets.proofs.UpdateLaws.{update-code, update-is, update-missing-is}
 use Rattle.snapshot.specs.Bytes.{AreBytes}
 use Rattle.snapshot.specs.Layout.{periodIn, seasonIn, indexIn, countIn}
 use Rattle.snapshot.specs.Snapshots.{openCode, cellsAt, decoded}
@@ -35,7 +34,7 @@ use Rattle.snapshot.proofs.Accepting.{accepted, accepted-room, one-snapshot}
 use Rattle.snapshot.proofs.Decoded.{cell-read, cell-none, accepted-passes, length-decoded}
 use Rattle.saving.specs.Encoding.{modelBytes, encoded}
 use Rattle.saving.specs.InPlace.{rejection, bytesAfter, numberAfter}
-use Rattle.saving.specs.Facts.{aheadIn, Held, Found, movedOn, seasonPut, stored}
+use Rattle.saving.specs.Facts.{aheadIn, Held, Found, advancedOn, seasonPut, stored}
 use Rattle.saving.proofs.Patches.{snapshotOf, level-written, season-written, position-written}
 use Rattle.saving.proofs.RoundTrip.{length-model, whole}
 
@@ -124,31 +123,36 @@ module _ (s : State) (ok : check s ≡ 0) (full : length (s .seasonal) ≡ 48) w
   head-length : length head ≡ 19
   head-length = length-model (s .model) (s .period) (s .alpha) (s .beta) (s .gamma) (s .phi)
 
-  season-put : (l b v : ℤ) → seasonPut (snapshotOf head l b (s .seasonal) (s .period) (s .index) (s .count)) (s .period) (s .index) v
-      ≡ snapshotOf head l b (cond (hasSeason (s .model)) (set (s .seasonal) (s .index) v) (s .seasonal)) (s .period) (s .index) (s .count)
-  season-put l b v = go (hasSeason (s .model)) refl
+  abbrev snapshot : List ℤ → List ℕ
+  snapshot cells = snapshotOf head (s .level) (s .trend) cells (s .period) (s .index) (s .count)
+
+  season-put : (v : ℤ) → seasonPut (snapshot (s .seasonal)) (s .period) (s .index) v ≡ snapshot (cond (hasSeason (s .model)) (set (s .seasonal) (s .index) v) (s .seasonal))
+  season-put v = go (hasSeason (s .model)) refl
     where
-      go : (t : Bool) → hasSeason (s .model) ≡ t → seasonPut (snapshotOf head l b (s .seasonal) (s .period) (s .index) (s .count)) (s .period) (s .index) v
-          ≡ snapshotOf head l b (cond t (set (s .seasonal) (s .index) v) (s .seasonal)) (s .period) (s .index) (s .count)
+      go : (t : Bool) → hasSeason (s .model) ≡ t → seasonPut (snapshot (s .seasonal)) (s .period) (s .index) v ≡ snapshot (cond t (set (s .seasonal) (s .index) v) (s .seasonal))
       go true h =
           let w = with-season s ok h in
-          rw (ne-eqb (s .period) 0 (λ z. omega arith)) (season-written head head-length l b (s .seasonal) (s .period) (s .index) (s .count) (s .index) v (w .index) (omega (arith, bounded s ok .index)))
+          rw (ne-eqb (s .period) 0 (λ z. omega arith)) (season-written head head-length (s .level) (s .trend) (s .seasonal) (s .period) (s .index) (s .count) (s .index) v (w .index) (omega (arith, bounded s ok .index)))
       go false h = rw (eq-eqb (s .period) 0 (no-season s ok h .period))
 
   seasons-are : (e : ℤ) → cond (hasSeason (s .model)) (set (s .seasonal) (s .index) (newSeason (termsOf s) e)) (s .seasonal) ≡ newSeasonal s e
   unfolding newSeasonal
   seasons-are e = refl
 
+  -- level, trend and position, whatever the season's cells
+  moved-on : (cells : List ℤ) (l b : ℤ) → advancedOn (snapshot cells) (s .period) (s .index) (s .count) l b
+      ≡ snapshotOf head l b cells (s .period) (nextIndex (s .period) (s .index)) (s .count + 1)
+  moved-on cells l b =
+      rw (level-written head head-length (s .level) (s .trend) cells (s .period) (s .index) (s .count) l b)
+      (position-written head head-length l b cells (s .period) (s .index) (s .count) (nextIndex (s .period) (s .index)) (s .count + 1))
+
   pub step-written : (e : ℤ) (u : Update) → u .level ≡ newLevel (termsOf s) e → u .trend ≡ newTrend (termsOf s) e → u .season ≡ newSeason (termsOf s) e → stored (encoded s) (s .period) (s .index) (s .count) u ≡ encoded (corrected s e)
   step-written e u el eb es =
-      let p = nextIndex (s .period) (s .index) in
-      rw (el, eb, es, encoded-is s, encoded-is (corrected s e), level-written head head-length (s .level) (s .trend) (s .seasonal) (s .period) (s .index) (s .count) (newLevel (termsOf s) e) (newTrend (termsOf s) e), season-put (newLevel (termsOf s) e) (newTrend (termsOf s) e) (newSeason (termsOf s) e), seasons-are e)
-      (position-written head head-length (newLevel (termsOf s) e) (newTrend (termsOf s) e) (newSeasonal s e) (s .period) (s .index) (s .count) p (s .count + 1))
+      rw (el, eb, es, encoded-is s, encoded-is (corrected s e), season-put (newSeason (termsOf s) e), seasons-are e)
+      (moved-on (newSeasonal s e) (newLevel (termsOf s) e) (newTrend (termsOf s) e))
 
-  pub missing-written : movedOn (encoded s) (s .period) (s .index) (s .count) ≡ encoded (afterMissing s)
-  missing-written =
-      rw (encoded-is s, encoded-is (afterMissing s))
-      (position-written head head-length (s .level) (s .trend) (s .seasonal) (s .period) (s .index) (s .count) (nextIndex (s .period) (s .index)) (s .count + 1))
+  pub missing-written : advancedOn (encoded s) (s .period) (s .index) (s .count) (advanced (termsOf s)) (dampedTrend s) ≡ encoded (afterMissing s)
+  missing-written = rw (encoded-is s, encoded-is (afterMissing s)) (moved-on (s .seasonal) (advanced (termsOf s)) (dampedTrend s))
 
 -- ---- the update on the numbers of a state that passes is the step
 pub record Direct (s : State) (y : ℤ) (u : Update) : Type 0 where
@@ -190,19 +194,13 @@ module _ (d : List ℕ) (x : Checked) (h : Held d x) where
       (ap (λ (l : List ℕ). stored l (s .period) (s .index) (s .count) u) (sym (h .whole))
       ∙ step-written s (h .passes) (length-decoded d) (residualOf s y) u (ap (λ (v : Update). v .level) e ∙ k .level) (ap (λ (v : Update). v .trend) e ∙ k .trend) (ap (λ (v : Update). v .season) e ∙ k .season))
 
-  pub missing-stored : movedOn d (x .period) (x .index) (x .numbers .count) ≡ encoded (afterMissing (decoded d))
-  missing-stored =
+  pub missing-stored : (u : Update) → u ≡ updateMissing (numbersOf (decoded d)) → missingCode (decoded d) ≡ 0 → advancedOn d (x .period) (x .index) (x .numbers .count) (u .level) (u .trend) ≡ encoded (afterMissing (decoded d))
+  unfolding advance
+  missing-stored u e z =
       let s = decoded d in
-      rw (h .period, h .index, count-is)
-      (ap (λ (l : List ℕ). movedOn l (s .period) (s .index) (s .count)) (sym (h .whole)) ∙ missing-written s (h .passes) (length-decoded d))
-
-  pub full-is : x .numbers .count ≡ maxCount → missingCode (decoded d) ≡ count-full
-  unfolding missingCode
-  full-is e = rw (h .passes, eq-eqb (decoded d .count) maxCount (sym count-is ∙ e))
-
-  pub free-is : (x .numbers .count ≡ maxCount → ⊥) → missingCode (decoded d) ≡ 0
-  unfolding missingCode
-  free-is n = rw (h .passes, ne-eqb (decoded d .count) maxCount (λ e. n (count-is ∙ e)))
+      rw (h .period, h .index, count-is, e ∙ update-missing-is s (h .passes) z)
+      (ap (λ (l : List ℕ). advancedOn l (s .period) (s .index) (s .count) (advanced (termsOf s)) (dampedTrend s)) (sym (h .whole))
+      ∙ missing-written s (h .passes) (length-decoded d))
 
 -- ---- a call by its rejection: that of the slice, that of the state, or none
 module _ (d : List ℕ) (x : Checked) (f : Found d x) where

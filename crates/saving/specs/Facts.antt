@@ -34,12 +34,15 @@ pub record Found (d : List ℕ) (x : Checked) : Type 0 where
   pub code : x .code ≡ inPlaceCode d
   pub held : inPlaceCode d ≡ 0 → Held d x
 
--- what is written: the position moves on, and before it level, trend and the season value
+-- what is written: the position moves on, and before it level and trend; of a reading the season value too
 abbrev pub movedOn : List ℕ → ℕ → ℕ → ℕ → List ℕ
 movedOn d m p n = sets d (positionAt m) (positionBytes (nextIndex m p) (n + 1))
+
+abbrev pub advancedOn : List ℕ → ℕ → ℕ → ℕ → ℤ → ℤ → List ℕ
+advancedOn d m p n l b = movedOn (sets d levelAt (levelBytes l b)) m p n
 
 abbrev pub seasonPut : List ℕ → ℕ → ℕ → ℤ → List ℕ
 seasonPut d m p v = cond (eqb m 0) d (sets d (seasonAt p) (seasonBytes p v))
 
 abbrev pub stored : List ℕ → ℕ → ℕ → ℕ → Update → List ℕ
-stored d m p n u = movedOn (seasonPut (sets d levelAt (levelBytes (u .level) (u .trend))) m p (u .season)) m p n
+stored d m p n u = advancedOn (seasonPut d m p (u .season)) m p n (u .level) (u .trend)

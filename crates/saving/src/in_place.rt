@@ -7,18 +7,17 @@ use super::writing::write_season;
 use ets::Update;
 use ets::next_index;
 use ets::updates::update;
+use ets::updates::update_missing;
 use forecasts::forecast_from;
 use snapshot::slices::opened;
 use snapshot::slices::season_value;
 use state::Answer;
-use state::COUNT_FULL;
-use state::MAX_COUNT;
 ghost use mathlib.Core.Path.{_≡_};
 ghost use Prim.Native.Nat.{_+_, _<_};
 ghost use Rattle.state.specs.Fixed.{maxCount};
 ghost use Rattle.snapshot.specs.Facts.{Room};
 ghost use Rattle.saving.specs.InPlace.{inPlaceStepCode, inPlaceStepBytes, inPlaceResidual, inPlaceMissingCode, inPlaceMissingBytes, inPlaceForecastCode, inPlaceForecast};
-ghost use Rattle.saving.specs.Facts.{aheadIn, movedOn, seasonPut, stored};
+ghost use Rattle.saving.specs.Facts.{aheadIn, movedOn, advancedOn, seasonPut, stored};
 
 // The seasonal index moves on and the count rises.
 fn move_on(d: &mut [u8], m: u8, p: u8, count: u64)
@@ -26,6 +25,15 @@ fn move_on(d: &mut [u8], m: u8, p: u8, count: u64)
     ensures { λ _. ⌜ now (d .exit) ≡ movedOn (now (d .entry)) m p count ⌝ }
 {
     write_position(d, m, next_index(m, p), count + 1);
+}
+
+// The level and the trend, and the position moves on: all that a missing reading writes.
+fn advance(d: &mut [u8], m: u8, p: u8, count: u64, level: i64, trend: i64)
+    requires { ⌜ Room (now d) m p × (count < maxCount) ⌝ }
+    ensures { λ _. ⌜ now (d .exit) ≡ advancedOn (now (d .entry)) m p count level trend ⌝ }
+{
+    write_level(d, level, trend);
+    move_on(d, m, p, count);
 }
 
 // The season value, in its place where there is one.
@@ -43,9 +51,8 @@ fn store(d: &mut [u8], m: u8, p: u8, count: u64, u: Update)
     requires { ⌜ Room (now d) m p × (count < maxCount) ⌝ }
     ensures { λ _. ⌜ now (d .exit) ≡ stored (now (d .entry)) m p count u ⌝ }
 {
-    write_level(d, u.level, u.trend);
     put_season(d, m, p, u.season);
-    move_on(d, m, p, count);
+    advance(d, m, p, count, u.level, u.trend);
 }
 
 // A reading: an accepted step rewrites the snapshot and stores the residual.
@@ -82,10 +89,12 @@ pub fn missing(snapshot: &mut [u8]) -> u8
         return code;
     }
     let n = x.numbers;
-    if n.count == MAX_COUNT {
-        return COUNT_FULL;
+    let u = update_missing(n);
+    let rejection = u.code;
+    if rejection != 0 {
+        return rejection;
     }
-    move_on(snapshot, x.period, x.index, n.count);
+    advance(snapshot, x.period, x.index, n.count, u.level, u.trend);
     0
 }
 

@@ -85,7 +85,12 @@ pub share-error : (a : ℕ) (e : ℤ) → Within 65536 (pos 2 *ℤ (pos 65536 *�
 unfolding share
 share-error a e = R-error (pos a *ℤ e)
 
--- of 1 it is the number, of 0 it is 0
+-- of 0 it is 0
+pub share-zero : (a : ℕ) → share a (pos 0) ≡ pos 0
+unfolding R share
+share-zero a = let e : a * 0 ≡ 0 = omega arith in rw e
+
+-- a parameter of 1 gives the number, one of 0 gives 0
 pub share-one : (e : ℤ) → share 65536 e ≡ e
 unfolding share
 share-one e = R-whole e

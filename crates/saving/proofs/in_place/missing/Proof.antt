@@ -1,36 +1,52 @@
--- `saving::in_place::missing` meets its contract.
+-- `saving::in_place::missing` meets its contract: the update is that of the state which the slice holds, and what is stored is the next one's snapshot.
 use Prim.Native.Nat.{ℕ}
-use mathlib.Core.Path.{_≡_, sym, _∙_}
+use mathlib.Core.Path.{_≡_, refl, sym, ap, ap₂, _∙_}
 use mathlib.Core.List.{List}
-use native.Mathlib.Omega.{arith}
-use lib.IntN.{pos}
+use lib.IntN.{ℤ, pos}
+use mir.Syntax.{w64}
+use Rattle.integers.proofs.Difference.{back}
 use Rattle.state.specs.declared.State.{State}
-use Rattle.state.proofs.Passing.{bounded}
 use Rattle.ets.specs.Steps.{missingCode, afterMissing}
+use Rattle.ets.specs.Updates.{numbersOf, updateMissing}
+use Rattle.ets.specs.declared.Numbers.{Numbers}
+use Rattle.ets.specs.declared.Update.{Update}
+use Rattle.ets.proofs.StepLaws.{missing-facts}
+use Rattle.ets.proofs.UpdateLaws.{update-missing-code}
 use Rattle.snapshot.specs.Snapshots.{decoded}
 use Rattle.saving.specs.InPlace.{inPlaceMissingCode, inPlaceMissingBytes}
-use Rattle.saving.specs.Facts.{Held, Found}
-use Rattle.saving.proofs.InPlaceSteps.{count-is, room-is, missing-stored, full-is, free-is, found, holds, unopened, opened, rejected, accepted-call}
+use Rattle.saving.specs.Facts.{Held, Found, advancedOn}
+use Rattle.saving.proofs.InPlaceSteps.{count-is, room-is, missing-stored, found, holds, unopened, opened, rejected, accepted-call}
 use borrow.Author.Needs.{needs}
 use Rattle.saving.proofs.in_place.missing.Statement.{statement}
 use Rattle.saving.proofs.in_place.missing.Tie as tie
 
--- the slice at entry
-abbrev d : tie.After-opened → List ℕ
-d c = c .before .before .before .args .snapshot .now
-
-goes-by : (c : tie.After-opened) → Found (d c) (c .opened .result)
-goes-by c = found (d c) (c .opened .result) (c .before .before .slice-known .given) (c .opened .ensures)
-
 abbrev next : State → State
 next s = afterMissing s
 
-held : (c : tie.Else1) → Held (d (c .before)) (c .before .opened .result)
-held c = holds (d (c .before)) _ (goes-by (c .before)) (c .if1 .left)
+-- the slice at entry
+module _ (c : tie.After-opened) where
+  abbrev d : List ℕ
+  d = c .before .before .before .args .snapshot .now
 
-told : (c : tie.Else1) (n : ℕ) → missingCode (decoded (d (c .before))) ≡ n → n ≡ inPlaceMissingCode (d (c .before))
-unfolding inPlaceMissingCode
-told c n z = opened (d (c .before)) _ (goes-by (c .before)) missingCode (c .if1 .left) n (sym z)
+  goes-by : Found d (c .opened .result)
+  goes-by = found d (c .opened .result) (c .before .before .slice-known .given) (c .opened .ensures)
+
+module _ (c : tie.After-update-missing) where
+  abbrev o : tie.After-opened
+  o = c .before .before .before
+
+  held : Held (d o) (o .opened .result)
+  held = holds (d o) _ (goes-by o) (c .before .before .if1 .left)
+
+  update-is : c .update-missing .result ≡ updateMissing (numbersOf (decoded (d o)))
+  update-is = c .update-missing .ensures ∙ ap (λ (n : Numbers). updateMissing n) (held .numbers)
+
+  code-is : c .update-missing .result .code ≡ missingCode (decoded (d o))
+  code-is = ap (λ (u : Update). u .code) update-is ∙ update-missing-code (decoded (d o)) (held .passes)
+
+  told : (n : ℕ) → c .update-missing .result .code ≡ n → n ≡ inPlaceMissingCode (d o)
+  unfolding inPlaceMissingCode
+  told n z = opened (d o) _ (goes-by o) missingCode (c .before .before .if1 .left) n (sym z ∙ code-is)
 
 returns : tie.Need-returns
 unfolding inPlaceMissingCode inPlaceMissingBytes
@@ -42,25 +58,35 @@ returns c =
 returns-2 : tie.Need-returns-2
 unfolding inPlaceMissingCode inPlaceMissingBytes
 returns-2 c =
-    let q = c .before .before .before in
-    let e = told q 14 (full-is (d (q .before)) _ (held q) (c .if2 .taken)) in
-    (e, rejected missingCode next (λ s. pos 0) (d (q .before)) (pos 0) 14 e (λ z. omega arith) .0)
+    let q = o (c .before) in
+    let e = told (c .before) _ refl in
+    (e, rejected missingCode next (λ s. pos 0) (d q) (pos 0) _ e (c .if2 .taken) .0)
 
-move-on-requires : tie.Need-move-on-requires
-move-on-requires c κs =
-    let q = c .before .before .before .before in
-    let s = d (q .before) in
-    let h = held q in
-    (room-is s _ h, omega (arith, count-is s _ h, bounded (decoded s) (h .passes) .count, c .before .if2 .left))
+advance-requires : tie.Need-advance-requires
+advance-requires c κs =
+    let i = c .before .before .before in
+    let u = i .before in
+    let h = held u in
+    (room-is (d (o u)) _ h, rw (count-is (d (o u)) _ h) (missing-facts (decoded (d (o u))) (sym (code-is u) ∙ i .if2 .left) .room))
 
 returns-3 : tie.Need-returns-3
 unfolding inPlaceMissingCode inPlaceMissingBytes
 returns-3 c =
     let w = c .before .before in
-    let i = w .before .before in
-    let q = i .before .before .before in
-    let e = told q 0 (free-is (d (q .before)) _ (held q) (i .if2 .left)) in
-    (e, w .move-on .ensures ∙ missing-stored (d (q .before)) _ (held q) ∙ accepted-call missingCode next (λ s. pos 0) (d (q .before)) (pos 0) e .0)
+    let i = w .before .before .before .before in
+    let u = i .before in
+    let q = o u in
+    let r = q .opened .result in
+    let n = u .update-missing .result in
+    let t = w .before .struct-told2 .given in
+    let z = sym (code-is u) ∙ i .if2 .left in
+    let e = told u 0 (i .if2 .left) in (
+      e,
+      w .advance .ensures
+          ∙ ap₂ (λ (l b : ℤ). advancedOn (d q) (r .period) (r .index) (r .numbers .count) l b) (back w64 (n .level) (t .1 .0 .1)) (back w64 (n .trend) (t .1 .1 .0 .1))
+          ∙ missing-stored (d q) _ (held u) n (update-is u) z
+          ∙ accepted-call missingCode next (λ s. pos 0) (d q) (pos 0) e .0,
+    )
 
 pub missing-spec : {M : Type 1} → statement M
 missing-spec =
@@ -69,8 +95,9 @@ missing-spec =
     (λ c κs. search needs)
     (λ c. search needs)
     returns
+    (λ c κs. search needs)
     (λ c. search needs)
     returns-2
-    move-on-requires
+    advance-requires
     (λ c. search needs)
     returns-3)
