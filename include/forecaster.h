@@ -1,9 +1,13 @@
 /* The room forecaster's calls for the station's C code, on numbers and on a lent slice that holds one group.
  *
- * A group is what saving a state writes: the commands 10 (model byte, m byte, A, B, G, F of 32 bits), 11 (l, b of
+ * A group is what saving a state writes: the commands 10 or 18 (model byte, m byte, A, B, G, F of 32 bits), 11 (l, b of
  * 64 bits), 12 for places 0 to m - 1 rising (place byte, value of 64 bits) and 13 (p byte, count of 64 bits), operands
  * low byte first, signed ones in two's complement: 46 + 10 * m bytes, FORECASTER_GROUP_LENGTH(m). Level, trend and
  * season values are whole grains; a grain is 1/65536 of a reading unit.
+ *
+ * 10 opens gains inside the usual region, B at most A and A + G at most 65536, and refuses others by 16. 18 opens those,
+ * which make the curve swing, and refuses gains inside by 7. A group that was saved with such gains before there was an 18
+ * is taken once its first byte is changed from 0x10 to 0x18. An accepted call leaves that byte as it is.
  *
  * The slice is `length` bytes at `group`, and holds one group and nothing after it. Any bytes may be lent, of any
  * length, and any numbers: what is not valid is refused. The pointers are not null, and the numbers lent do not
@@ -33,29 +37,30 @@ enum {
     FORECASTER_TRUNCATED = 4,       /* The bytes end inside a command, or before the group is finished. */
     FORECASTER_BAD_MODEL = 5,       /* The model byte is not valid. */
     FORECASTER_BAD_PERIOD = 6,      /* The season length is not one the model allows. */
-    FORECASTER_BAD_PARAMETER = 7,   /* A parameter is not one the model allows. */
+    FORECASTER_BAD_PARAMETER = 7,   /* A parameter is not one the model allows; or 18, and the gains are inside the region. */
     FORECASTER_WRONG_INDEX = 8,     /* A season's place is not the one due. */
     FORECASTER_BAD_VALUE = 9,       /* A level, trend or season value is out of range, or not 0 where the model has none. */
     FORECASTER_BAD_POSITION = 10,   /* The place is out of range, or the count is above 2^48. */
     FORECASTER_BAD_HORIZON = 11,    /* The horizon is outside 1 to 512. */
     FORECASTER_BAD_READING = 13,    /* The reading is out of range. */
     FORECASTER_COUNT_FULL = 14,     /* The count already stands at 2^48. */
-    FORECASTER_LEAVES_RANGE = 15    /* A new level, trend or season value would leave its range. */
+    FORECASTER_LEAVES_RANGE = 15,   /* A new level, trend or season value would leave its range. */
+    FORECASTER_UNUSUAL_GAINS = 16   /* 10, and the gains are outside the usual region. Checked right after 7. */
 };
 
 /* One step: takes the reading, a whole number from -1,000,000 to 1,000,000, into the group's state. An accepted step
  * rewrites the group (l, b, the season value at place p, p and the count) and puts e = 65536 * y - q, in grains, into
- * *residual. Refusals: 2 to 10 of the group, 3 for any byte after it, then 13, 14, 15. */
+ * *residual. Refusals: 2 to 10 and 16 of the group, 3 for any byte after it, then 13, 14, 15. */
 uint8_t forecaster_step(uint8_t *group, size_t length, int32_t reading, int64_t *residual);
 
 /* A missing reading: a model with trend goes on as its own forecast does, so that the forecast for h after it is the one
  * for h + 1 before it: l becomes l + d and b becomes d, which is F * b / 65536 to the nearest grain, halves up. Without
  * trend l and b stay. The season values stay, p moves on and the count rises by one. An accepted one rewrites the group.
- * Refusals: 2 to 10 of the group, 3 for any byte after it, then 14, 15. */
+ * Refusals: 2 to 10 and 16 of the group, 3 for any byte after it, then 14, 15. */
 uint8_t forecaster_missing(uint8_t *group, size_t length);
 
-/* The forecast for horizon h, 1 to 512, in grains, into *value. The group is not written. Refusals: 2 to 10 of the
- * group, 3 for any byte after it, then 11. */
+/* The forecast for horizon h, 1 to 512, in grains, into *value. The group is not written. Refusals: 2 to 10 and 16
+ * of the group, 3 for any byte after it, then 11. */
 uint8_t forecaster_forecast(const uint8_t *group, size_t length, uint32_t horizon, int64_t *value);
 
 #ifdef __cplusplus

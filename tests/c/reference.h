@@ -2,8 +2,8 @@
  * batch, all horizons and the weight, on a slice that holds one group. The group is checked where it lies and only what a
  * call moves is written. The tests compare the proved calls with these, and the benchmark measures both.
  *
- * Each call returns 0 or the number of the first refusal in checking order: 2 to 10 of the group, 3 for any byte after it,
- * then the call's own. A refused call writes nothing, but for a batch: see there. */
+ * Each call returns 0 or the number of the first refusal in checking order: 2 to 10 and 16 of the group, 3 for any byte
+ * after it, then the call's own. A refused call writes nothing, but for a batch: see there. */
 #ifndef REFERENCE_H
 #define REFERENCE_H
 
@@ -14,6 +14,7 @@ enum { REF_MOST_SEASON = 48, REF_MOST_HORIZON = 512, REF_GROUP_MOST = 46 + 10 * 
 
 /* The numbers of a state, in document 01's letters. */
 struct ref_state {
+    int outside; /* 1 where command 18 opens it and not 10 (W-201) */
     int model, m;
     uint32_t A, B, G, F;
     int64_t l, b, s[REF_MOST_SEASON];

@@ -32,7 +32,7 @@ static void expect(int holds, const char *text) {
 enum call { STEP, MISSING, FORECAST, BATCH, FORECASTS, WEIGHT, CALLS };
 static const char *const names[CALLS] = {"step", "missing", "forecast", "batch", "forecasts", "weight"};
 #define BIT(code) (1u << (code))
-#define OF_A_GROUP (BIT(11) - BIT(2)) /* 2 to 10 */
+#define OF_A_GROUP (BIT(11) - BIT(2) + BIT(16)) /* 2 to 10, and 16 */
 #define OF_A_READING (BIT(13) | BIT(14) | BIT(15))
 static const unsigned refusals[CALLS] = {OF_A_GROUP | OF_A_READING,           OF_A_GROUP | BIT(14) | BIT(15), OF_A_GROUP | BIT(11),
                                          OF_A_GROUP | BIT(12) | OF_A_READING, OF_A_GROUP | BIT(11) | BIT(12), OF_A_GROUP | BIT(11)};
@@ -54,7 +54,7 @@ static void all_given(void) {
     what = "refusals";
     for (int call = 0; call < CALLS; call++)
         for (int code = 0; code < 256; code++) {
-            int can = code == 0 || (code < 16 && refusals[call] & BIT(code));
+            int can = code == 0 || (code < 17 && refusals[call] & BIT(code));
             if (can != (given[call][code] != 0)) {
                 failures++;
                 fprintf(stderr, "%s: %d was %s\n", names[call], code, can ? "never given" : "given");
@@ -220,6 +220,16 @@ static struct ref_state plain(int model, int m) {
     return st;
 }
 
+/* Gains outside the usual region, for command 18: A + G of 65537 with a season, else B above A. */
+static struct ref_state moved_outside(struct ref_state st) {
+    if (st.m)
+        st.G = 65537 - st.A;
+    else
+        st.A = st.B - 1;
+    st.outside = 1;
+    return st;
+}
+
 static const int models[] = {0, 1, 2, 4, 5, 6};
 static const int periods[] = {2, 3, 24, 48};
 
@@ -293,12 +303,14 @@ static void listed_cases(void) {
 }
 
 /* ---- refusals 2, 3 and 4 at every place of every kind of group */
-static void cuts_and_commands(void) {
+static void cuts_and_commands(int outside) {
     for (size_t i = 0; i < sizeof models / sizeof *models; i++)
         for (size_t j = 0; j < sizeof periods / sizeof *periods; j++) {
-            if (!seasonal(models[i]) && j > 0)
+            if ((!seasonal(models[i]) && j > 0) || (outside && models[i] == 0))
                 continue;
             struct ref_state st = plain(models[i], seasonal(models[i]) ? periods[j] : 0);
+            if (outside)
+                st = moved_outside(st);
             uint8_t bytes[MOST];
             size_t n = ref_group(&st, bytes);
             what = "a cut group";
@@ -315,15 +327,51 @@ static void cuts_and_commands(void) {
                     uint8_t due = bytes[at];
                     bytes[at] = (uint8_t)first;
                     int low = first & 15, high = first >> 4;
-                    int known = (high == 1 && low < 4) || (high == 2 && low < 2) || (high == 3 && low < 2) || first == 0x40;
+                    int known = (high == 1 && (low < 4 || low == 8)) || (high == 2 && low < 2) || (high == 3 && low < 2) || first == 0x40;
+                    int other = at == 0 && first == (st.outside ? 0x10 : 0x18); /* the other command that opens a group */
+                    int code = !known ? FORECASTER_UNKNOWN_COMMAND : !other ? FORECASTER_OUT_OF_PLACE : st.outside ? FORECASTER_UNUSUAL_GAINS : FORECASTER_BAD_PARAMETER;
                     if (first != due)
-                        all_refuse(bytes, n, known ? FORECASTER_OUT_OF_PLACE : FORECASTER_UNKNOWN_COMMAND);
+                        all_refuse(bytes, n, code);
                     /* out of place is told before cut */
                     if (first != due && known)
-                        all_refuse(bytes, at + 1, FORECASTER_OUT_OF_PLACE);
+                        all_refuse(bytes, at + 1, other ? FORECASTER_TRUNCATED : FORECASTER_OUT_OF_PLACE);
                     bytes[at] = due;
                 }
         }
+}
+
+/* ---- 16, and 7 of 18, at both edges of the usual region; all the calls on a group that 18 opens, which keeps its first byte */
+static void region(void) {
+    uint8_t bytes[MOST];
+    what = "the usual region";
+    for (size_t i = 0; i < sizeof models / sizeof *models; i++)
+        for (int edge = 0; edge < 2; edge++)
+            for (int over = -1; over <= 1; over++)
+                for (int outside = 0; outside < 2; outside++) {
+                    struct ref_state st = plain(models[i], seasonal(models[i]) ? 3 : 0);
+                    if (edge == 0 ? !trend_of(models[i]) : !st.m)
+                        continue;
+                    if (edge == 0)
+                        st.B = (uint32_t)((int)st.A + over);
+                    else
+                        st.G = (uint32_t)(65536 - (int)st.A + over);
+                    st.outside = outside;
+                    size_t n = ref_group(&st, bytes);
+                    if (outside != (over > 0)) {
+                        all_refuse(bytes, n, outside ? FORECASTER_BAD_PARAMETER : FORECASTER_UNUSUAL_GAINS);
+                        st.F = 65537; /* 7 comes before 16 */
+                        n = ref_group(&st, bytes);
+                        all_refuse(bytes, n, FORECASTER_BAD_PARAMETER);
+                        bytes[2] = 49; /* and 6 before both */
+                        all_refuse(bytes, n, FORECASTER_BAD_PERIOD);
+                        continue;
+                    }
+                    expect(try_forecast(bytes, n, 5) == 0, "a forecast was refused");
+                    expect(try_weight(bytes, n, 5) == 0, "a weight was refused");
+                    expect(try_step(bytes, n, 7) == 0, "a step was refused");
+                    expect(try_missing(bytes, n) == 0, "a missing reading was refused");
+                    expect(bytes[0] == (outside ? 0x18 : 0x10), "the group begins with another command");
+                }
 }
 
 /* ---- refusals 5 to 11 and 13 to 15, at the edges of each range */
@@ -371,7 +419,7 @@ static void operands(void) {
     what = "parameters";
     for (size_t i = 0; i < sizeof models / sizeof *models; i++) {
         int m = seasonal(models[i]) ? 2 : 0, trend = trend_of(models[i]);
-        st = plain(models[i], m), st.A = 65536;
+        st = plain(models[i], m), st.A = 65536, st.outside = m != 0;
         TAKEN();
         st.A = 65537;
         REFUSED(FORECASTER_BAD_PARAMETER);
@@ -509,7 +557,7 @@ static void operands(void) {
     n = ref_group(&st, bytes);
     expect(try_batch(bytes, n, rising, 4, 5) == FORECASTER_LEAVES_RANGE, "a level left its range");
     what = "a new trend or season value";
-    st = plain(1, 0), st.A = 0, st.B = 65536, st.l = -range;
+    st = plain(1, 0), st.A = 0, st.B = 65536, st.l = -range, st.outside = 1;
     n = ref_group(&st, bytes);
     expect(try_step(bytes, n, 1000000) == FORECASTER_LEAVES_RANGE, "a trend left its range");
     st = plain(4, 2), st.A = 0, st.G = 65536, st.l = -range, st.s[0] = range;
@@ -547,6 +595,7 @@ static struct ref_state random_state(void) {
     st.l = pick(-range, range);
     for (int k = 0; k < st.m; k++)
         st.s[k] = pick(-range, range);
+    st.outside = (st.B > st.A || st.A + st.G > 65536) != (pick(0, 19) == 0);
     st.count = pick(0, 9) == 0 ? (UINT64_C(1) << 48) - (uint64_t)pick(0, 2) : (uint64_t)pick(0, 1000000);
     return st;
 }
@@ -630,7 +679,9 @@ int main(void) {
     number_cells = map_pages(MOST_CELLS * sizeof(int64_t));
     reading_cells = map_pages(MOST_CELLS * sizeof(int32_t));
     listed_cases();
-    cuts_and_commands();
+    cuts_and_commands(0);
+    cuts_and_commands(1);
+    region();
     operands();
     damaged_groups(200000);
     what = "a long run";

@@ -15,7 +15,7 @@ The program reads records and writes a line for each. A record is an operation's
     9 variance     of a horizon, with 32 bits for the residuals' variance
     10 save        the length of the byte cells lent
 
-A state is a length and as many season cells of 64 bits, the others being 0; model and m, a byte each; A, B, G, F of 32 bits;
+A state is a length and as many season cells of 64 bits, the others being 0; 1 where command 18 opened it, or 0, model and m, a byte each; A, B, G, F of 32 bits;
 l and b of 64 bits; p, a byte; count, of 64 bits.
 
 A line is the operation, the refusal or 0, and what the call gives, each number before a blank; a byte is a number. A step, a
@@ -29,7 +29,7 @@ from dataclasses import replace
 
 import forecaster as f
 from forecaster import State
-from streams import C, COUNTS, MODELS, PARAMETERS, V, VALUES, WORD32, cells, nominal
+from streams import C, COUNTS, MODELS, PARAMETERS, V, VALUES, WORD32, cells, edge_gains, nominal, opened
 
 READ, CHECK, STEP, MISSING, BATCH, FORECAST, FORECASTS, WEIGHT, VARIANCE, SAVE = range(1, 11)
 UNTOUCHED = 77
@@ -40,14 +40,18 @@ def numbers(size, *values):
     return b"".join((v % 256**size).to_bytes(size, "little") for v in values)
 
 
+def outside(x):
+    return 1 if x.opener == 0x18 else 0
+
+
 def state_bytes(x):
     used = max((k + 1 for k, value in enumerate(x.s) if value), default=0)
     season = numbers(4, used) + numbers(8, *x.s[:used])
-    return season + numbers(1, x.model, x.m) + numbers(4, x.A, x.B, x.G, x.F) + numbers(8, x.l, x.b) + numbers(1, x.p) + numbers(8, x.count)
+    return season + numbers(1, outside(x), x.model, x.m) + numbers(4, x.A, x.B, x.G, x.F) + numbers(8, x.l, x.b) + numbers(1, x.p) + numbers(8, x.count)
 
 
 def state_numbers(x):
-    return [x.model, x.m, x.A, x.B, x.G, x.F, x.l, x.b, x.p, x.count, *x.s]
+    return [outside(x), x.model, x.m, x.A, x.B, x.G, x.F, x.l, x.b, x.p, x.count, *x.s]
 
 
 def attempted(call):
@@ -156,7 +160,7 @@ class Script:
 
 
 def refused_states(t):
-    """Checks 5, 6, 7, 9, 10 of a state handed in directly, one fault at a time."""
+    """Checks 5, 6, 7, 16, 9, 10 of a state handed in directly, one fault at a time."""
     for model in (3, 7, 8, 255):
         t.use(replace(nominal(0), model=model))
         t.check()
@@ -167,7 +171,12 @@ def refused_states(t):
             t.check()
         for name in "ABGF":
             for value in PARAMETERS:
-                t.use(replace(x, **{name: value}))
+                for opener in (0x10, 0x18):
+                    t.use(replace(x, opener=opener, **{name: value}))
+                    t.check()
+        for A, B, G in edge_gains(model):
+            for opener in (0x10, 0x18):
+                t.use(replace(x, A=A, B=B, G=G, opener=opener))
                 t.check()
         for name in "lb":
             for value in VALUES:
@@ -187,7 +196,7 @@ def refused_states(t):
             t.check()
 
 
-FAULTS = [dict(model=3), dict(m=49), dict(F=0), dict(l=V + 1), dict(p=48)]
+FAULTS = [dict(model=3), dict(m=49), dict(F=0), dict(B=20001), dict(l=V + 1), dict(p=48)]
 
 
 def first_fault(t):
@@ -239,7 +248,7 @@ def steps(t):
             t.missing()
             t.keep()
             t.missing()
-            t.use(State(model=1, B=65536, F=65536, b=edge))
+            t.use(opened(State(model=1, B=65536, F=65536, b=edge)))
             t.step(sign)
             t.use(State(model=4, m=2, G=65536, s=cells(edge, 0), l=-edge))
             t.step(sign)
@@ -300,7 +309,7 @@ def horizons(t):
                 t.weight(h)
             for sigma2 in (0, 1, 2**31, WORD32):
                 t.variance(512, sigma2)
-    most = State(model=5, m=2, A=65536, B=65536, G=65536, F=65536, l=V, b=V, s=cells(V, V))
+    most = opened(State(model=5, m=2, A=65536, B=65536, G=65536, F=65536, l=V, b=V, s=cells(V, V)))
     least = replace(most, l=-V, b=-V, s=cells(-V, -V))
     for x in (most, least, replace(least, model=6, F=65535)):
         t.use(x)
@@ -327,16 +336,40 @@ def groups(t):
             t.keep()
             t.save(526)
     t.read(b"")
-    for byte in (0x00, 0x10, 0x11, 0x12, 0x13, 0x20, 0x21, 0x30, 0x31, 0x40, 0x41, 0xFF):
+    for byte in (0x00, 0x10, 0x11, 0x12, 0x13, 0x18, 0x20, 0x21, 0x30, 0x31, 0x40, 0x41, 0xFF):
         t.read(bytes([byte]))
     saved = f.group_bytes(nominal(5))
     for end in range(len(saved)):
         t.read(saved[:end])
 
 
+def outside_region(t):
+    """W-201: every call on a state that 18 opened, on the same numbers by 10, and on one by 18 whose gains are inside."""
+    for model in (1, 2, 4, 5, 6):
+        x = opened(replace(nominal(model), A=100, G=65500 if model & 4 else 0))
+        assert x.opener == 0x18
+        for y in (x, replace(x, opener=0x10), replace(nominal(model), opener=0x18)):
+            t.use(y)
+            t.everything()
+            t.step(1_000_001)
+            t.forecast(0)
+            t.save(3)
+        t.use(x)
+        for y in (20, 25, -3):
+            t.step(y)
+            t.keep()
+            t.missing()
+            t.keep()
+        t.save(526)
+        saved = f.group_bytes(t.state)
+        t.read(saved + b"\x18")
+        t.read(b"\x10" + saved[1:])
+        t.read(b"\x18" + f.group_bytes(nominal(model))[1:])
+
+
 def script():
     t = Script()
-    for part in (refused_states, first_fault, steps, batches, horizons, groups):
+    for part in (refused_states, first_fault, steps, batches, horizons, groups, outside_region):
         part(t)
     return t
 

@@ -4,7 +4,7 @@ from dataclasses import replace
 
 import forecaster as f
 from forecaster import State
-from streams import C, COUNTS, MODELS, UNKNOWN, V
+from streams import C, COUNTS, MODELS, UNKNOWN, V, edge_gains, opened
 
 EDGES = {
     0x10: [
@@ -21,6 +21,10 @@ EDGES = {
     0x21: [],
     0x40: [],
 }
+
+
+EDGES[0x18] = EDGES[0x10]
+GAINS = {model: list(edge_gains(model)) for model in MODELS}
 
 
 def magnitude(rng, limit):
@@ -43,12 +47,14 @@ def state(rng):
     m = rng.choice([2, 3, rng.randint(2, 12), 24, 48]) if seasonal else 0
     limit = rng.choice([10, 2**20, 2**27, V])
     s = [signed(rng, limit) for _ in range(m)] + [0] * (f.CELLS - m)
-    return State(
+    gains = (parameter(rng), parameter(rng) if trend else 0, parameter(rng) if seasonal else 0)
+    A, B, G = gains if rng.random() < 0.8 else rng.choice(GAINS[model])
+    found = State(
         model=model,
         m=m,
-        A=parameter(rng),
-        B=parameter(rng) if trend else 0,
-        G=parameter(rng) if seasonal else 0,
+        A=A,
+        B=B,
+        G=G,
         F=[0, 65536, rng.choice([1, 32768, 65535, rng.randint(1, 65535)])][trend],
         l=signed(rng, limit),
         b=signed(rng, limit) if trend else 0,
@@ -56,6 +62,7 @@ def state(rng):
         p=rng.choice([0, m - 1, rng.randint(0, m - 1)]) if m else 0,
         count=rng.choice([0, 1, 2, C - rng.randint(0, 20), rng.randint(0, C), *[rng.randint(0, 1000)] * 7]),
     )
+    return opened(found)
 
 
 def command(rng, reading_limit):
@@ -85,11 +92,15 @@ def commands(rng):
 
 
 def spoil_command(rng, found):
-    """Changes one command of the list: an operand to an edge, or the command left out, doubled, moved or put in."""
+    """Changes one command of the list: an operand to an edge, 10 to 18 or back, or the command left out, doubled, moved or put in."""
     at = rng.randrange(len(found))
     c = found[at]
-    kind = rng.randrange(8)
-    if kind < 4:
+    kind = rng.randrange(9)
+    openers = [k for k, c in enumerate(found) if c[0] in (0x10, 0x18)]
+    if kind == 8 and openers:
+        at = rng.choice(openers)
+        found[at] = (0x28 - found[at][0], *found[at][1:])
+    elif kind < 4:
         at = rng.choice([k for k, c in enumerate(found) if len(c) > 1])
         c = list(found[at])
         which = rng.randrange(1, len(c))

@@ -13,7 +13,7 @@ V, C = f.VALUE_LIMIT, f.COUNT_LIMIT
 WORD32 = 2**32 - 1
 LOW64, HIGH64 = -(2**63), 2**63 - 1
 
-UNKNOWN = [0x00, 0x01, 0x0F, 0x14, 0x1F, 0x22, 0x2F, 0x32, 0x3F, 0x41, 0x80, 0xFF]
+UNKNOWN = [0x00, 0x01, 0x0F, 0x14, 0x17, 0x19, 0x1F, 0x22, 0x2F, 0x32, 0x3F, 0x41, 0x80, 0xFF]
 MODELS = [0, 1, 2, 4, 5, 6]
 
 
@@ -23,6 +23,11 @@ def join(*parts):
 
 def cells(*values):
     return tuple(values) + (0,) * (f.CELLS - len(values))
+
+
+def opened(x):
+    """The state by the command that opens its gains (W-201)."""
+    return replace(x, opener=0x10 if f.usual(x.A, x.B, x.G) else 0x18)
 
 
 def nominal(model, m=2):
@@ -99,7 +104,8 @@ def edges():
         x = nominal(model)
         for name in "ABGF":
             for value in PARAMETERS:
-                yield join(f.group_bytes(replace(x, **{name: value})), (0x31, 3, 1))
+                for opener in (0x10, 0x18):
+                    yield join(f.group_bytes(replace(x, opener=opener, **{name: value})), (0x31, 3, 1))
         for name in "lb":
             for value in VALUES:
                 yield join(f.group_bytes(replace(x, **{name: value})), (0x30, 1))
@@ -130,7 +136,7 @@ def operands():
             yield join(group, (0x31, 512, sigma2))
     most = dict(A=65536, F=65536, B=65536)
     yield join(f.group_bytes(State(model=1, **most)), (0x31, 512, WORD32))
-    yield join(f.group_bytes(State(model=5, m=2, G=65536, **most)), (0x31, 512, WORD32))
+    yield join(f.group_bytes(opened(State(model=5, m=2, G=65536, **most))), (0x31, 512, WORD32))
     for sign in (1, -1):
         x = State(model=5, m=2, l=sign * V, b=sign * V, s=cells(sign * V, sign * V), **most)
         yield join(f.group_bytes(x), (0x30, 1), (0x30, 512))
@@ -161,7 +167,7 @@ def order():
             yield join(last, final, then)
     # A new group that is refused: the offset is that of the command inside it.
     x = nominal(6)
-    for bad in dict(model=3), dict(m=1), dict(F=65536), dict(l=V + 1), dict(b=-V - 1), dict(s=cells(0, V + 1)), dict(p=2), dict(count=C + 1):
+    for bad in dict(model=3), dict(m=1), dict(F=65536), dict(B=20001), dict(opener=0x18), dict(l=V + 1), dict(b=-V - 1), dict(s=cells(0, V + 1)), dict(p=2), dict(count=C + 1):
         yield join(f.group_bytes(x), (0x20, 20), f.group_bytes(replace(x, **bad)))
 
 
@@ -186,14 +192,58 @@ def leaving():
             yield join(f.group_bytes(State(model=2, F=32768, l=l, b=sign * 3)), (0x21,), (0x40,), (0x21,), (0x40,))
             yield join(f.group_bytes(State(model=0, l=l)), (0x21,), (0x40,))
             # With F = 1 and B = 65536 the trend becomes e, which nears 2^37 in one step from level 0.
-            yield join(f.group_bytes(State(model=1, B=65536, F=65536, b=l)), (0x20, sign), (0x40,))
+            yield join(f.group_bytes(opened(State(model=1, B=65536, F=65536, b=l))), (0x20, sign), (0x40,))
             # A season value that moves by e alone: l is far from the reading.
             yield join(f.group_bytes(State(model=4, m=2, G=65536, s=cells(l, 0), l=-l)), (0x20, sign), (0x40,))
             yield join(f.group_bytes(State(model=4, m=2, G=65536, s=cells(0, l), p=1, l=-l)), (0x20, sign * d), (0x40,))
         yield join(f.group_bytes(State(model=0, A=65536, l=high)), (0x20, y), (0x40,))
         yield join(f.group_bytes(State(model=0, A=65536, l=high)), (0x20, -y), (0x40,))
-        yield join(f.group_bytes(State(model=6, m=2, F=65535, B=65536, A=1, b=high, l=-high)), (0x20, y), (0x40,))
-        yield join(f.group_bytes(State(model=6, m=2, F=65535, B=65536, A=1, b=high, l=high)), (0x20, y), (0x40,))
+        yield join(f.group_bytes(opened(State(model=6, m=2, F=65535, B=65536, A=1, b=high, l=-high))), (0x20, y), (0x40,))
+        yield join(f.group_bytes(opened(State(model=6, m=2, F=65535, B=65536, A=1, b=high, l=high))), (0x20, y), (0x40,))
+
+
+def edge_gains(model):
+    """Gains on both sides of each edge of the usual region, and far from it."""
+    trend, seasonal = model & 3, model & 4 != 0
+    for A in (0, 1, 20000, 65535, 65536):
+        for B in sorted({b for b in (0, A - 1, A, A + 1, 65536) if 0 <= b <= 65536}) if trend else (0,):
+            left = 65536 - A
+            for G in sorted({g for g in (0, left - 1, left, left + 1, B, 65536) if 0 <= g <= 65536}) if seasonal else (0,):
+                yield A, B, G
+
+
+def region():
+    """W-201: gains inside and outside the usual region by 10 and by 18; the other refusals beside 16; saves by 18 opened again."""
+    for model in MODELS:
+        for A, B, G in edge_gains(model):
+            for opener in (0x10, 0x18):
+                yield join(f.group_bytes(replace(nominal(model), A=A, B=B, G=G, opener=opener)), (0x20, 20), (0x40,))
+    x = opened(replace(nominal(5), A=100, B=101))
+    y = opened(replace(nominal(6, 3), A=50000, G=15537))
+    assert (x.opener, y.opener) == (0x18, 0x18)
+    for z in (x, y):
+        # With 16 or 7 of 18 another fault: the first in the order 5, 6, 7, 16, 8, 9, 10 is told.
+        for opener in (0x10, 0x18):
+            for bad in dict(model=3), dict(m=1), dict(F=0), dict(A=65537), dict(l=V + 1), dict(s=cells(V + 1)), dict(p=9), dict(count=C + 1):
+                yield f.group_bytes(replace(z, opener=opener, **bad))
+                yield f.group_bytes(replace(nominal(5), opener=opener, **bad))
+        # 18 where 10 may stand: first, after a state, after a save; refused there the state before stays.
+        group, plain, run = f.group_bytes(z), f.group_bytes(nominal(4)), readings(9)
+        yield join(group, *run, (0x40,), plain, *run, (0x40,), group, *QUESTIONS)
+        yield join(plain, *run, group, *run, (0x40,))
+        saved = f.group_bytes(f.play(join(group, *run))[1])
+        assert saved[0] == 0x18
+        yield join(saved, *QUESTIONS, saved, (0x40,))
+        yield join(b"\x10", saved[1:], *QUESTIONS)
+        yield join(plain, b"\x10", saved[1:], *QUESTIONS)
+        yield join(plain, b"\x18", plain[1:], *QUESTIONS)
+        # A group that was begun: 10 and 18 are out of place in it.
+        for at in (19, 36, 46):
+            for byte in (b"\x10", b"\x18"):
+                yield group[:at] + byte + group[at + 1 :]
+    # Without trend and season 18 opens nothing.
+    for A in (0, 1, 65535, 65536):
+        yield f.group_bytes(State(A=A, opener=0x18))
 
 
 def places():
@@ -247,6 +297,7 @@ def cut():
         x = nominal(model)
         yield join(f.group_bytes(x), (0x20, 20), (0x21,), (0x30, 2), (0x31, 2, 4), (0x40,), f.group_bytes(x), (0x20, -20))
     yield f.group_bytes(nominal(4, 48))
+    yield join(f.group_bytes(opened(replace(nominal(5), A=0))), (0x40,), f.group_bytes(nominal(0)))
 
 
 def long_runs():
@@ -286,7 +337,7 @@ def longest():
     yield whole + whole
 
 
-PLAYED = [document, models, edges, operands, order, gaps, leaving, places, saves, damaged, long_runs]
+PLAYED = [document, models, edges, operands, order, gaps, leaving, region, places, saves, damaged, long_runs]
 
 
 def records():

@@ -77,6 +77,8 @@ MISTAKES = [
     ("an unknown parameter", "model none delta 4\n", 1, "a model has no delta"),
     ("a parameter without a number", "model none alpha\n", 1, "alpha takes a number"),
     ("an unknown model", "model linear\n", 1, "a model is none, straight or damped, or a model byte"),
+    ("outside and no model", "model outside\n", 1, "a model is none, straight or damped, or a model byte"),
+    ("outside twice", "model outside outside none\n", 1, "a model is none, straight or damped, or a model byte"),
     ("no model", "model\n", 1, "a model is none, straight or damped, or a model byte"),
     ("a level before a model", "level 4\nmodel none\n", 1, "level belongs after a model line"),
     ("a level after a reading", "model none\nreading 4\nlevel 4\n", 3, "level belongs after a model line"),

@@ -8,6 +8,8 @@ import forecaster as f
 from harness import TOOLS, case, environment, holds, play, same, shell, started, tool
 
 LISTING = "model none alpha 0.5\nreading 10\nforecast 2\nvariance 2 4\n"
+PARAMETER = "a parameter is not one the model allows, or command 18 has gains inside the usual region"
+UNUSUAL = "command 10 has gains outside the usual region: model outside opens them by 18"
 RANGE = "a level, trend or season value is out of range, or not 0 where the model has none"
 
 
@@ -76,8 +78,25 @@ SHOWN = [
         "a number that no line gave",
         "model damped\nlevel 4\n",
         1,
-        table((1, "model damped", "X 7 0", "a parameter is not one the model allows"), "line 2 was not played"),
+        table((1, "model damped", "X 7 0", PARAMETER), "line 2 was not played"),
     ),
+    (
+        "gains outside the usual region",
+        "model straight alpha 0.25 beta 0.5\nreading 4\n",
+        1,
+        table((1, "model straight alpha 0.25 beta 0.5", "X 16 0", UNUSUAL), "line 2 was not played"),
+    ),
+    (
+        "the same by 18",
+        "model outside straight A 2 B 3\nmissing\n",
+        0,
+        table(
+            (1, "model outside straight A 2 B 3", "O 1 0", "state opened: model 1, season length 0"),
+            (2, "missing", "M", "missing reading taken"),
+            ("", "", "N 1", "1 step counted"),
+        ),
+    ),
+    ("gains inside by 18", "model outside none m 2 A 3 G 65533\n", 1, table((1, "model outside none m 2 A 3 G 65533", "X 7 0", PARAMETER))),
     (
         "a refused reading",
         "model none\nreading 1000001\n# a comment\nforecast 1\n",

@@ -53,8 +53,10 @@ FILES = [
     ("a column by number is no name", "1,2\n3,4\n", ["--column", "2"], opened(2) + steps([2, 4])),
     ("a byte order mark and CRLF", "\ufeff" + TABLE.replace("\n", "\r\n"), ["--column", "t", "--scale", "10"], TAKEN),
     ("quotes and another separator", TABLE.replace(",", ";").replace("21", '"21"'), ["--column", "t", "--separator", ";", "--scale", "10"], TAKEN),
-    ("a model", "5\n7\n", ["--model", "damped", "--alpha", "0.25", "--beta", "0.5", "--phi", "1/2", "--level=-1.5", "--trend", "2"],
-     f.group_bytes(State(model=2, A=16384, B=32768, F=32768, l=-98304, b=2 * FIXED_POINT)) + steps([5, 7])),
+    ("a model", "5\n7\n", ["--model", "damped", "--alpha", "0.25", "--beta", "0.125", "--phi", "1/2", "--level=-1.5", "--trend", "2"],
+     f.group_bytes(State(model=2, A=16384, B=8192, F=32768, l=-98304, b=2 * FIXED_POINT)) + steps([5, 7])),
+    ("gains outside the usual region", "5\n7\n", ["--outside", "--model", "damped", "--alpha", "0.25", "--beta", "0.5", "--phi", "1/2", "--level=-1.5", "--trend", "2"],
+     f.group_bytes(State(model=2, A=16384, B=32768, F=32768, opener=0x18, l=-98304, b=2 * FIXED_POINT)) + steps([5, 7])),
     ("a season that is given", "5\n7\n", ["--m", "2", "--gamma", "0.5", "--season=-1,1", "--place", "1"],
      f.group_bytes(State(model=4, m=2, A=32768, G=32768, l=4 * FIXED_POINT, s=(-FIXED_POINT, FIXED_POINT) + (0,) * 46, p=1)) + steps([5, 7])),
     ("a season from the first readings", "5\nNA\n8\n9\n", ["--m", "3", "--place", "2"],
@@ -147,7 +149,7 @@ def same_lines(found, expected):
 @case("series: a model that the program refuses")
 def rejected_model(folder):
     ended = series(folder, "1\n2\n", "--model", "damped")
-    same(ended, (1, b"X 7 0\n", "series: model damped alpha 0.5 is refused: a parameter is not one the model allows\n"))
+    same(ended, (1, b"X 7 0\n", "series: model damped alpha 0.5 is refused: a parameter is not one the model allows, or command 18 has gains inside the usual region\n"))
 
 
 @case("series: a line after the readings that the program refuses")

@@ -33,6 +33,9 @@ WRITTEN = [
     ("straight with another phi", "model straight F 7\n", S(State(model=1, F=7))),
     ("letters", "model damped A 1 B 2 G 3 F 4\nl -5\nb 6\ncount 8\n", S(State(model=2, A=1, B=2, G=3, F=4, l=-5, b=6, count=8))),
     ("words", "model damped alpha 1 beta .5 gamma 25e-2 phi 1/3\n", S(State(model=2, A=65536, B=32768, G=16384, F=21845))),
+    ("by 18", "model outside straight alpha 0.25 beta 0.5\nsave\n", S(State(model=1, A=16384, B=32768, F=65536, opener=0x18)) + b"\x40"),
+    ("by 18 with a season", "model outside none m 2 A 40000 G 40000\ns 1 7\n", S(State(model=4, m=2, A=40000, G=40000, s=(0, 7) + (0,) * 46, opener=0x18))),
+    ("by 18, whatever its gains", "model outside 0x03 alpha 1\n", S(State(model=3, A=65536, opener=0x18))),
     ("a model byte", "model 0x03 m 2 alpha 1\n", S(State(model=3, m=2, A=65536))),
     ("a model byte without season and an m", "model 1 m 2\n", S(State(model=1, m=2, F=65536))),
     ("seasons in any order", "model none m 2\ns 1 7\nplace 1\ns 0 -7\n", S(State(model=4, m=2, s=(-7, 7) + (0,) * 46, p=1))),
@@ -54,6 +57,7 @@ WRITTEN = [
     ("tabs", "\tmodel\tnone \t m\t2\n", S(State(model=4, m=2))),
     ("no last line end", "model none\nmissing", S(State()) + b"\x21"),
     ("raw bytes", "bytes 10ff 00 AB\n", bytes.fromhex("10ff00ab")),
+    ("a saved group of 18", "group " + S(State(model=1, B=1, F=65536, opener=0x18)).hex() + "\nsave\n", S(State(model=1, B=1, F=65536, opener=0x18)) + b"\x40"),
     ("a saved group", "group " + S(State(model=6, m=3, A=1, F=2, l=-3)).hex() + "\nsave\n", S(State(model=6, m=3, A=1, F=2, l=-3)) + b"\x40"),
 ]  # fmt: skip
 
@@ -87,7 +91,8 @@ def random_text(rng):
     x = random_streams.state(rng)
     names = ["none", "straight", "damped"]
     season = f" m {x.m}" if x.m else ""
-    head = [f"model {names[x.trend]} A {x.A} B {x.B} G {x.G} F {x.F}{season}", f"l {x.l}", f"b {x.b}", f"place {x.p}", f"count {x.count}"]
+    outside = "outside " if x.opener == 0x18 else ""
+    head = [f"model {outside}{names[x.trend]} A {x.A} B {x.B} G {x.G} F {x.F}{season}", f"l {x.l}", f"b {x.b}", f"place {x.p}", f"count {x.count}"]
     rest = head[1:] + [f"s {k} {x.s[k]}" for k in range(x.m)]
     rng.shuffle(rest)
     return "\n".join(head[:1] + rest), x

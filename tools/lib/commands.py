@@ -37,12 +37,17 @@ def fields(*pairs):
 
 
 MODEL, LEVEL, SEASON, POSITION = 0x10, 0x11, 0x12, 0x13
+OUTSIDE = 0x18  # opens a group as MODEL does, for gains outside the usual region
+OPENERS = (MODEL, OUTSIDE)
 READING, MISSING, FORECAST, VARIANCE, SAVE = 0x20, 0x21, 0x30, 0x31, 0x40
+
+MODEL_FIELDS = fields("model:B", "m:B", "A:I", "B:I", "G:I", "F:I")
 
 COMMANDS = {
     command.byte: command
     for command in (
-        Command(MODEL, "", "O", fields("model:B", "m:B", "A:I", "B:I", "G:I", "F:I")),
+        Command(MODEL, "", "O", MODEL_FIELDS),
+        Command(OUTSIDE, "", "O", MODEL_FIELDS),
         Command(LEVEL, "", "", fields("l:q", "b:q")),
         Command(SEASON, "", "", fields("place:B", "s:q")),
         Command(POSITION, "", "", fields("place:B", "count:Q")),
@@ -95,6 +100,7 @@ class Snapshot(NamedTuple):
     s: tuple
     p: int
     count: int
+    opener: int  # MODEL or OUTSIDE
 
 
 class Decoded(NamedTuple):
@@ -106,17 +112,17 @@ class Decoded(NamedTuple):
     operands: tuple  # a Snapshot for a group
 
 
-def operands_at(stream, at, due=None):
-    """The operands of the command at the offset and the offset after it, or None: not a whole command, or not the one due."""
+def operands_at(stream, at, *due):
+    """The operands of the command at the offset and the offset after it, or None: not a whole command, or none of those due."""
     command = COMMANDS.get(stream[at]) if at < len(stream) else None
-    if command is None or (due is not None and command.byte != due) or at + command.length > len(stream):
+    if command is None or (due and command.byte not in due) or at + command.length > len(stream):
         return None
     return struct.unpack_from(command.layout, stream, at + 1), at + command.length
 
 
 def decode_snapshot(stream, at=0):
     """The Snapshot of the group at the offset, whatever its numbers, and the offset after it; None where there is none."""
-    head = operands_at(stream, at, MODEL)
+    head = operands_at(stream, at, *OPENERS)
     level = head and operands_at(stream, head[1], LEVEL)
     seasonal, last = [], level
     for _ in range(head[0][1] if level else 0):
@@ -125,7 +131,7 @@ def decode_snapshot(stream, at=0):
     position = last and operands_at(stream, last[1], POSITION)
     if not position:
         return None
-    return Snapshot(*head[0], *level[0], tuple(seasonal), *position[0]), position[1]
+    return Snapshot(*head[0], *level[0], tuple(seasonal), *position[0], stream[at]), position[1]
 
 
 def decode(stream):
@@ -134,7 +140,7 @@ def decode(stream):
     while at < len(stream):
         if stream[at] in ONLY_IN_SNAPSHOT:
             break
-        taken = decode_snapshot(stream, at) if stream[at] == MODEL else operands_at(stream, at)
+        taken = decode_snapshot(stream, at) if stream[at] in OPENERS else operands_at(stream, at)
         if taken is None:
             break
         found.append(Decoded(at, taken[1], stream[at], taken[0]))

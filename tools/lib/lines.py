@@ -19,7 +19,7 @@ REJECTIONS = {
     4: "the bytes end inside a command or before a group is finished",
     5: "the model byte is not valid",
     6: "the season length is not one the model allows",
-    7: "a parameter is not one the model allows",
+    7: "a parameter is not one the model allows, or command 18 has gains inside the usual region",
     8: "a season's place is not the one due",
     9: "a level, trend or season value is out of range, or not 0 where the model has none",
     10: "the place is out of range, or the count is above 2^48",
@@ -28,6 +28,7 @@ REJECTIONS = {
     13: "the reading is out of range",
     14: "the count already stands at 2^48",
     15: "a new level, trend or season value would leave its range",
+    16: "command 10 has gains outside the usual region: model outside opens them by 18",
 }
 TOO_LONG = 1  # the refusal that names no command
 

@@ -5,7 +5,7 @@ from typing import NamedTuple
 
 from lib import commands
 from lib.cli import Mistake, shown
-from lib.commands import LEVEL, MODEL, POSITION, SEASON, COMMANDS, encode, fitted, in_words
+from lib.commands import LEVEL, MODEL, OUTSIDE, POSITION, SEASON, COMMANDS, encode, fitted, in_words
 from lib.numerals import decimal, nearest, whole
 
 TRENDS = {"none": 0, "straight": 1, "damped": 2}
@@ -37,6 +37,8 @@ class Description:
     def __init__(self, source, scale, words):
         self.source, self.scale = source, scale
         self.given = {}  # name, or (s, place), to value, line and the user's words
+        self.opener = OUTSIDE if words[:1] == ["outside"] else MODEL
+        words = words[self.opener == OUTSIDE :]
         self.byte = self.model_byte(words)
         self.parameters(words[1:])
 
@@ -103,7 +105,7 @@ class Description:
 
     def pieces(self):
         value, m = self.value, self.value("m")
-        made = [(encode(MODEL, self.byte, m, *map(value, "ABGF")), (self.source,))]
+        made = [(encode(self.opener, self.byte, m, *map(value, "ABGF")), (self.source,))]
         made.append((encode(LEVEL, value("l"), value("b")), self.sources("l", "b")))
         made += [(encode(SEASON, k, value(("s", k))), self.sources(("s", k))) for k in range(m)]
         made.append((encode(POSITION, value("place"), value("count")), self.sources("place", "count")))

@@ -101,6 +101,7 @@ pub fn next_readings<'a>(space: &'a mut [i32], n: usize) -> &'a mut [i32] {
 pub fn next_state() -> State {
     let seasonal = next_season();
     State {
+        outside: next_byte() != 0,
         model: next_byte(),
         period: next_byte(),
         alpha: next_u32(),

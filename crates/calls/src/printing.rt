@@ -46,6 +46,7 @@ fn print_season(cells: &[i64; 48]) {
 
 pub fn print_state(s: State) {
     let cells = s.seasonal;
+    print_code(s.outside as u8);
     print_values(
         &[
             s.model as i64,
@@ -56,9 +57,9 @@ pub fn print_state(s: State) {
             s.phi as i64,
             s.level,
             s.trend,
-            s.index as i64,
         ],
     );
+    print_code(s.index);
     print_number(s.count);
     print_season(&cells);
 }

@@ -2,7 +2,7 @@
 use mathlib.Core.Path.{refl}
 use Rattle.state.specs.Fixed.{R, share}
 use Rattle.integers.specs.Below.{allBelow}
-use Rattle.state.specs.States.{check}
+use Rattle.state.specs.States.{check, parametersCode}
 use Rattle.ets.specs.Steps.{dampedTrend, seasonDue, residual, newLevel, newTrend, newSeason, newSeasonal, nextIndex, advanced, missingCode, stepCode, step, missing}
 use Rattle.forecasts.specs.Forecasts.{trendAt, trendLine, seasonAt, forecastOf, forecastCodeTo, forecastTo}
 use Rattle.weights.specs.Weights.{dampingSum, trendTerm, seasonTerm, coefficient, squares, weightOf, weight, variance}
@@ -13,7 +13,7 @@ _and_ : {A B : Type 0} → A → B → A × B
 a and b = (a, b)
 
 pub all-rows : Every table
-unfolding Every R share allBelow check dampedTrend seasonDue residual newLevel newTrend newSeason newSeasonal nextIndex advanced missingCode stepCode step missing trendAt trendLine seasonAt forecastOf forecastCodeTo forecastTo dampingSum trendTerm seasonTerm coefficient squares weightOf weight variance table
+unfolding Every R share allBelow check parametersCode dampedTrend seasonDue residual newLevel newTrend newSeason newSeasonal nextIndex advanced missingCode stepCode step missing trendAt trendLine seasonAt forecastOf forecastCodeTo forecastTo dampingSum trendTerm seasonTerm coefficient squares weightOf weight variance table
 all-rows =
     -- T1
     refl and refl and refl and refl

@@ -22,7 +22,7 @@ use Rattle.ets.proofs.Kept.{cells-kept, reading-kept, missing-kept}
 use Rattle.weights.specs.Weights.{variance}
 use Rattle.weights.specs.declared.Variance.{Variance}
 use Rattle.weights.specs.declared.Variance.the-variants as variance-of
-use Rattle.snapshot.specs.CommandTable.{commandSize}
+use Rattle.snapshot.specs.CommandTable.{commandSize, opens}
 use Rattle.snapshot.specs.Snapshots.{openCode, openOffset, decoded, read}
 use Rattle.saving.specs.Encoding.{encoded}
 use Rattle.saving.specs.Saving.{save, saveCode, savedBytes}
@@ -159,9 +159,9 @@ module _ (s : List ℕ) (x : Session) (d : List ℕ) where
       let to : ℕ = x .at + commandSize b in
       let l : x .at < to = omega arith in
       let k : to ≤ length s = omega arith in
-      let open-state : eqb b 0x10 ≡ false → Sound x → Passes (x .state) = λ q p. p .passes (active-is (x .active) (eqb b 0x10) (w .due) q) in
+      let open-state : opens b ≡ false → Sound x → Passes (x .state) = λ q p. p .passes (active-is (x .active) (opens b) (w .due) q) in
       let P : Command → Type 0 = λ c. After (record { command = c; next = to }) in
-      cond-elim P (eqb b 0x10) _ _ (λ _. open-goes s x d h)
+      cond-elim P (opens b) _ _ (λ _. open-goes s x d h)
       (λ q. cond-elim P (eqb b 0x20) _ _ (λ _. reading-goes s x d to l k (open-state q) _)
       (λ _. cond-elim P (eqb b 0x21) _ _ (λ _. missing-goes s x d to l k (open-state q))
       (λ _. cond-elim P (eqb b 0x30) _ _ (λ _. forecast-goes s x d to l k (open-state q) _)
@@ -272,21 +272,21 @@ answers-laws = record { each = command-by-command; lines = line-by-line; written
 
 -- ---- a new group, and the offset of X
 module _ (s : List ℕ) (x : Session) (room : ℕ) (o : decode s (x .at) (x .active) .command ≡ command-of.Open) where
-  opens : perform s x room ≡ openSnapshot s x
-  opens = performs s x (decode s (x .at) (x .active)) command-of.Open refl o room
+  opened : perform s x room ≡ openSnapshot s x
+  opened = performs s x (decode s (x .at) (x .active)) command-of.Open refl o room
 
   whole : openCode (drop (x .at) s) ≡ 0 → perform s x room .session .state ≡ decoded (drop (x .at) s)
   unfolding openSnapshot read
-  whole z = rw (opens, z)
+  whole z = rw (opened, z)
 
   otherwise : (openCode (drop (x .at) s) ≡ 0 → ⊥) → perform s x room .session ≡ x
-  otherwise h = ap (λ (p : Performed). p .session) (opens ∙ opened-rejected s x (openCode (drop (x .at) s)) refl h)
+  otherwise h = ap (λ (p : Performed). p .session) (opened ∙ opened-rejected s x (openCode (drop (x .at) s)) refl h)
 
   none : openCode (drop (x .at) s) ≡ truncated → length (drop (x .at) s) ≤ openOffset (drop (x .at) s) → perform s x room .reply ≡ reply-of.Rejected truncated (length s)
   none z h =
       let k = inside s (x .at) (x .active) o in
       let e : restOffset s (x .at) ≡ length s = omega (arith, length-drop (x .at) s, offsets (drop (x .at) s) .within) in
-      ap (λ (p : Performed). p .reply) (opens ∙ opened-rejected s x 4 (sym z) (λ q. omega arith))
+      ap (λ (p : Performed). p .reply) (opened ∙ opened-rejected s x 4 (sym z) (λ q. omega arith))
       ∙ ap (λ (n : ℕ). reply-of.Rejected 4 n) e
 
 pub openings : Openings

@@ -63,7 +63,7 @@ finish x = stopped (reply-of.Ended (cond (x .active) (x .state .count) 0)) x
 abbrev pub restOffset : List ℕ → ℕ → ℕ
 restOffset s at = at + openOffset (drop at s)
 
--- 10: a new group replaces the state only when all of it is accepted
+-- 10 or 18: a new group replaces the state only when all of it is accepted
 unfoldable pub openSnapshot : List ℕ → Session → Performed
 openSnapshot s x =
     let t = drop (x .at) s in

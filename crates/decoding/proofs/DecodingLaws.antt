@@ -13,7 +13,7 @@ use Rattle.integers.proofs.Tests.{both}
 use Rattle.state.proofs.Tests.{unless-then, unless-zero}
 use Rattle.snapshot.specs.Answers.{lengthAnswer}
 use Rattle.snapshot.specs.Bytes.{fromBytes, unsignedAt}
-use Rattle.snapshot.specs.CommandTable.{commandSize, isCommand, onlyInSnapshot, commandLength}
+use Rattle.snapshot.specs.CommandTable.{commandSize, isCommand, onlyInSnapshot, opens, commandLength}
 use Rattle.snapshot.specs.declared.Length.the-variants as length-of
 use Rattle.decoding.specs.Decoding.{commandCode, operands, decoded, decode}
 use Rattle.decoding.specs.declared.Command.the-variants as command-of
@@ -65,7 +65,7 @@ module _ (s : List ℕ) (at : ℕ) (active : Bool) where
   b = getD s at 0
 
   abbrev Due : Bool → Type 0
-  Due t = (not (onlyInSnapshot b) && (active || eqb b 0x10)) ≡ t
+  Due t = (not (onlyInSnapshot b) && (active || opens b)) ≡ t
 
   pub decode-end : length s ≤ at → decode s at active ≡ decoded command-of.End at
   unfolding decode
@@ -106,7 +106,7 @@ size-least zero e = absurd (false≢true e)
 size-least (suc n) e = omega arith
 
 pub record Whole (s : List ℕ) (at : ℕ) (active : Bool) : Type 0 where
-  pub due : (active || eqb (getD s at 0) 0x10) ≡ true
+  pub due : (active || opens (getD s at 0)) ≡ true
   pub least : 0 < commandSize (getD s at 0)
   pub most : commandSize (getD s at 0) ≤ length s - at
 
@@ -114,11 +114,11 @@ pub whole-command : (s : List ℕ) (at : ℕ) (active : Bool) → commandCode s 
 unfolding commandCode isCommand
 whole-command s at active e =
     let b = getD s at 0 in
-    let due = not (onlyInSnapshot b) && (active || eqb b 0x10) in
+    let due = not (onlyInSnapshot b) && (active || opens b) in
     let c = unless-then (isCommand b) 1 (unless due out-of-place then unless (leb (commandSize b) (length s - at)) truncated) e in
     let d = unless-then due 2 (unless (leb (commandSize b) (length s - at)) truncated) (c .1) in
     record {
-      due = both (not (onlyInSnapshot b)) (active || eqb b 0x10) (d .0) .1;
+      due = both (not (onlyInSnapshot b)) (active || opens b) (d .0) .1;
       least = size-least (commandSize b) (c .0);
       most = leb-true (commandSize b) (length s - at) (unless-zero _ 3 (d .1));
     }

@@ -8,7 +8,7 @@ use mir.Syntax.{w32}
 use mir.Val.{toZ}
 use Rattle.state.specs.Rejections.{unless, _then_, unknown-command, out-of-place, truncated}
 use Rattle.snapshot.specs.Bytes.{unsignedAt}
-use Rattle.snapshot.specs.CommandTable.{commandSize, isCommand, onlyInSnapshot}
+use Rattle.snapshot.specs.CommandTable.{commandSize, isCommand, onlyInSnapshot, opens}
 use Rattle.decoding.specs.declared.Command.{Command}
 use Rattle.decoding.specs.declared.Command.the-variants as command-of
 use Rattle.decoding.specs.declared.Decoded.{Decoded}
@@ -18,14 +18,14 @@ unfoldable pub commandCode : List ℕ → ℕ → Bool → ℕ
 commandCode s at active =
     let b = getD s at 0 in
     unless (isCommand b) unknown-command
-    then unless (not (onlyInSnapshot b) && (active || eqb b 0x10)) out-of-place
+    then unless (not (onlyInSnapshot b) && (active || opens b)) out-of-place
     then unless (leb (commandSize b) (length s - at)) truncated
 
 -- the command of a first byte, with its operands
 unfoldable pub operands : List ℕ → ℕ → Command
 operands s at =
     let b = getD s at 0 in
-    cond (eqb b 0x10) command-of.Open
+    cond (opens b) command-of.Open
     (cond (eqb b 0x20) (command-of.Reading (toZ w32 (unsignedAt s (at + 1) 4)))
     (cond (eqb b 0x21) command-of.Missing
     (cond (eqb b 0x30) (command-of.Forecast (unsignedAt s (at + 1) 2))

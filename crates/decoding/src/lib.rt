@@ -5,6 +5,7 @@ use operands::operands;
 use snapshot::Length;
 use snapshot::command_length;
 use snapshot::only_in_snapshot;
+use snapshot::opens;
 use state::OUT_OF_PLACE;
 use state::TRUNCATED;
 ghost use mathlib.Core.Path.{_≡_};
@@ -43,7 +44,7 @@ pub fn decode(s: &[u8], at: usize, active: bool) -> Decoded
     let size = command_length(b);
     match size {
         Length::Bytes(n) => {
-            let due = !only_in_snapshot(b) & (active | (b == 0x10));
+            let due = !only_in_snapshot(b) & (active | opens(b));
             if !due {
                 return Decoded {
                     command: Command::Rejected(OUT_OF_PLACE),

@@ -1,5 +1,6 @@
 // Operands of 16 and 32 bits, low byte first, where the stream has so many bytes.
 use super::Command;
+use snapshot::opens;
 ghost use mathlib.Core.Path.{_≡_};
 ghost use Prim.Native.Nat.{_+_, _≤_, _<_};
 ghost use lib.ListN.{length, getD};
@@ -44,7 +45,7 @@ pub fn operands(s: &[u8], at: usize) -> Command
     ensures { λ r. ⌜ r ≡ operands (now (s .entry)) at ⌝ }
 {
     let b = s[at];
-    if b == 0x10 {
+    if opens(b) {
         return Command::Open;
     }
     if b == 0x20 {

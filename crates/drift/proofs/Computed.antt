@@ -9,7 +9,7 @@ use lib.ListN.{getD-replicate}
 use borrow.Author.Tests.{eq-eqb}
 use Rattle.state.specs.Fixed.{R, share}
 use Rattle.integers.specs.Below.{allBelow}
-use Rattle.state.specs.States.{check}
+use Rattle.state.specs.States.{check, parametersCode}
 use Rattle.ets.specs.Steps.{dampedTrend, seasonDue, newLevel, newTrend, newSeason, newSeasonal, nextIndex, stepCode, advanced, missingCode, step, missing, residual}
 use Rattle.ets.specs.Batches.{takeCode, afterTake, run, batchRun, batch, batchLevels}
 use Rattle.forecasts.specs.Forecasts.{trendAt, trendLine, seasonAt, forecastOf, forecastList, forecastTo, forecastCellsTo, forecastsTo, forecastCodeTo, forecastsCodeTo}
@@ -23,7 +23,7 @@ use Rattle.traces.specs.Calls.{result, after}
 use Rattle.drift.specs.Exact.{Parameters, exactDamped, exactResidual, adjusted, exactSeason, exactTake, exactBatch, exactTrendAt, exactLine, exactForecast, exactAfter, Expected, expectedLevels, expectedForecasts, expected}
 use Rattle.drift.specs.Limits.{AtMost, WithinLimit, EachWithin, more, Claim, Opening}
 use Rattle.drift.specs.Components.{StepError}
-use Rattle.drift.specs.Pins.{seasonal, damped, standing, ClaimOf, Refused, beside, creep, Attained, compared, falling, gaps, Needed, opening, calls, Shown, Pins}
+use Rattle.drift.specs.Pins.{seasonal, damped, standing, ClaimOf, Refused, beside, creep, Attained, compared, falling, gaps, creeping, Needed, opening, calls, Shown, Pins}
 use Rattle.drift.proofs.Drift.{demand3}
 
 -- the first comparison of an answer
@@ -36,7 +36,7 @@ index-refused k l h =
     le→leb 2 0 (rw (getD-replicate 48 k (pos 0) (pos 0) l, eq-eqb k k refl) at (h .seasons k (omega arith)))
 
 refused : Refused
-unfolding Claim AtMost WithinLimit result check allBelow R share dampedTrend seasonDue residual newLevel newTrend newSeason newSeasonal nextIndex stepCode takeCode afterTake run batchRun batch batchLevels trendAt trendLine seasonAt forecastOf forecastCodeTo forecastTo forecastList forecastsCodeTo forecastsTo forecastCellsTo fromBytes toBytes commandSize isCommand dueCode modelCode levelCode seasonCode scanSeasons positionCode scan cellsAt decoded modelBytes levelBytes seasonBytes seasonsBytes positionBytes encoded inPlaceCode inPlaceForecastCode inPlaceForecast exactDamped exactResidual adjusted exactSeason exactTake exactTrendAt exactLine exactForecast expectedLevels expectedForecasts exactAfter expected
+unfolding Claim AtMost WithinLimit result check parametersCode allBelow R share dampedTrend seasonDue residual newLevel newTrend newSeason newSeasonal nextIndex stepCode takeCode afterTake run batchRun batch batchLevels trendAt trendLine seasonAt forecastOf forecastCodeTo forecastTo forecastList forecastsCodeTo forecastsTo forecastCellsTo fromBytes toBytes commandSize isCommand dueCode modelCode levelCode seasonCode scanSeasons positionCode scan cellsAt decoded modelBytes levelBytes seasonBytes seasonsBytes positionBytes encoded inPlaceCode inPlaceForecastCode inPlaceForecast exactDamped exactResidual adjusted exactSeason exactTake exactTrendAt exactLine exactForecast expectedLevels expectedForecasts exactAfter expected
 refused =
     record {
       level-one = λ h. le→leb _ _ (h .level);
@@ -58,11 +58,11 @@ refused =
     }
 
 attained : Attained
-unfolding creep after beside result check allBelow R share dampedTrend seasonDue residual newLevel newTrend newSeason newSeasonal nextIndex advanced stepCode step trendAt trendLine seasonAt forecastOf exactDamped exactResidual adjusted exactSeason exactTrendAt exactLine exactForecast exactAfter
+unfolding creep after beside result check parametersCode allBelow R share dampedTrend seasonDue residual newLevel newTrend newSeason newSeasonal nextIndex advanced stepCode step trendAt trendLine seasonAt forecastOf exactDamped exactResidual adjusted exactSeason exactTrendAt exactLine exactForecast exactAfter
 attained = record { half = refl; plain-sixteen = refl; step = leb→le _ _ tt; missing = refl; damped-one = refl; damped-eight = leb→le _ _ tt }
 
 needed : Needed
-unfolding AtMost WithinLimit falling gaps after beside result check allBelow R share dampedTrend seasonDue residual newLevel newTrend newSeason newSeasonal nextIndex stepCode step advanced missingCode missing trendAt trendLine seasonAt forecastOf forecastCodeTo forecastTo exactDamped exactResidual adjusted exactSeason exactTrendAt exactLine exactForecast exactAfter expected
+unfolding AtMost WithinLimit falling gaps after beside result check parametersCode allBelow R share dampedTrend seasonDue residual newLevel newTrend newSeason newSeasonal nextIndex stepCode step advanced missingCode missing trendAt trendLine seasonAt forecastOf forecastCodeTo forecastTo exactDamped exactResidual adjusted exactSeason exactTrendAt exactLine exactForecast exactAfter expected
 needed =
     record {
       level-alone = (refl, refl, λ h. le→leb _ _ h);
@@ -73,16 +73,20 @@ needed =
     }
 
 opens : Opening opening
-unfolding check allBelow
+unfolding check parametersCode allBelow
 opens = record { cells = refl; passes = refl; trendless = refl }
+
+opens-outside : Opening (creeping (pos 0))
+unfolding check parametersCode allBelow
+opens-outside = record { cells = refl; passes = refl; trendless = refl }
 
 stepped : StepError (damped 0 1 (pos 0) (pos 1000000)) (pos 0)
 unfolding AtMost R share dampedTrend seasonDue residual newLevel newTrend newSeason newSeasonal nextIndex exactDamped exactResidual adjusted exactSeason
 stepped = record { level = leb→le _ _ tt; trend = leb→le _ _ tt; seasons = λ k l. absurd (omega arith) }
 
 shown : Shown
-unfolding compared calls result check allBelow R share dampedTrend seasonDue residual newLevel newTrend newSeason newSeasonal nextIndex stepCode advanced missingCode step missing takeCode afterTake run batchRun batch batchLevels trendAt trendLine seasonAt forecastOf forecastCodeTo forecastTo forecastList forecastsCodeTo forecastsTo forecastCellsTo fromBytes toBytes commandSize isCommand dueCode modelCode levelCode seasonCode scanSeasons positionCode scan cellsAt decoded modelBytes levelBytes seasonBytes seasonsBytes positionBytes encoded inPlaceCode inPlaceStepCode inPlaceStepBytes inPlaceMissingCode inPlaceMissingBytes inPlaceForecastCode inPlaceForecast exactDamped exactResidual adjusted exactSeason exactTake exactBatch exactTrendAt exactLine exactForecast exactAfter expectedLevels expectedForecasts expected
-shown = record { step = stepped; opens = opens; holds = demand3 opening opens calls; short = refl; compares = refl }
+unfolding compared calls result check parametersCode allBelow R share dampedTrend seasonDue residual newLevel newTrend newSeason newSeasonal nextIndex stepCode advanced missingCode step missing takeCode afterTake run batchRun batch batchLevels trendAt trendLine seasonAt forecastOf forecastCodeTo forecastTo forecastList forecastsCodeTo forecastsTo forecastCellsTo fromBytes toBytes commandSize isCommand dueCode modelCode levelCode seasonCode scanSeasons positionCode scan cellsAt decoded modelBytes levelBytes seasonBytes seasonsBytes positionBytes encoded inPlaceCode inPlaceStepCode inPlaceStepBytes inPlaceMissingCode inPlaceMissingBytes inPlaceForecastCode inPlaceForecast exactDamped exactResidual adjusted exactSeason exactTake exactBatch exactTrendAt exactLine exactForecast exactAfter expectedLevels expectedForecasts expected
+shown = record { step = stepped; opens = opens; opens-outside = opens-outside; holds = demand3 opening opens calls; short = refl; compares = refl }
 
 pub pins : Pins
 pins = record { refused = refused; attained = attained; needed = needed; shown = shown }

@@ -18,7 +18,7 @@ use Rattle.state.specs.declared.State.{State}
 use Rattle.integers.proofs.Tests.{both}
 use Rattle.models.proofs.ModelLaws.{model-law, valid-small}
 use Rattle.state.proofs.Rounding.{share-error, share-one, share-none}
-use Rattle.state.proofs.Passing.{passed, bounded}
+use Rattle.state.proofs.Passing.{allowed, passed, bounded}
 use Rattle.forecasts.specs.Forecasts.{trendAt, trendLine, seasonAt, forecastOf}
 use Rattle.drift.specs.Exact.{parametersOf, opened, exactTrendAt, exactLine, exactForecast}
 use Rattle.drift.specs.Limits.{AtMost}
@@ -153,16 +153,16 @@ module _ (s : State) (ok : check s ≡ 0) (h : ℕ) where
   unfolding forecastOf
   undamped k =
       spread (65536 ^ h) (trendLine (s .level) (s .phi) (s .trend) h) (seasonAt s h)
-      ∙ ap (λ (z : ℤ). z +ℤ pos (65536 ^ h) *ℤ seasonAt s h) (whole-line s (undamped-phi (trendOf (s .model)) (s .phi) (omega arith) (no-third (s .model) (passed s ok .model)) k (passed s ok .phi)) h)
+      ∙ ap (λ (z : ℤ). z +ℤ pos (65536 ^ h) *ℤ seasonAt s h) (whole-line s (undamped-phi (trendOf (s .model)) (s .phi) (omega arith) (no-third (s .model) (passed s ok .model)) k (allowed s ok .phi)) h)
       ∙ sym (from-same s h)
 
   level : trendOf (s .model) ≡ 0 → forecastOf s h ≡ s .level +ℤ seasonAt s h
   unfolding forecastOf
-  level e = ap (λ (z : ℤ). z +ℤ seasonAt s h) (flat-line s (eqb-true (s .phi) 0 (rw e at (passed s ok .phi))) h)
+  level e = ap (λ (z : ℤ). z +ℤ seasonAt s h) (flat-line s (eqb-true (s .phi) 0 (rw e at (allowed s ok .phi))) h)
 
   straight : trendOf (s .model) ≡ 1 → forecastOf s h ≡ s .level +ℤ pos h *ℤ s .trend +ℤ seasonAt s h
   unfolding forecastOf
-  straight e = ap (λ (z : ℤ). z +ℤ seasonAt s h) (straight-line s (eqb-true (s .phi) 65536 (rw e at (passed s ok .phi))) h)
+  straight e = ap (λ (z : ℤ). z +ℤ seasonAt s h) (straight-line s (eqb-true (s .phi) 65536 (rw e at (allowed s ok .phi))) h)
 
 pub forecast-errors : ForecastErrors
 forecast-errors s ok h = record { level = level s ok h; straight = straight s ok h; undamped = undamped s ok h; damped = damped s ok h }

@@ -61,7 +61,7 @@ Claim c s x (k ∷ ks) =
     let r = result s k in
     EachWithin c (r .numbers) (expected c x (r .event)) × Claim c (r .state) (exactAfter c x (r .event)) ks
 
--- a state of a trendless model that checks 5, 6, 7, 9 and 10 let pass (the array of a state has 48 cells)
+-- a state of a trendless model that checks 5, 6, 7, 16, 9 and 10 let pass (the array of a state has 48 cells)
 pub record Opening (s : State) : Type 0 where
   pub cells : length (s .seasonal) ≡ 48
   pub passes : check s ≡ 0

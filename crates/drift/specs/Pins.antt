@@ -1,12 +1,13 @@
 -- What keeps demand 3 from being read weaker or emptier than it is: claims that fail, runs that come up to the limits, runs that show what the limits must leave
 -- out, and a run with what is compared. Each is computed.
 use Prim.Native.Nat.{ℕ, zero, suc, _+_, _*_, _-_, _/_, _^_, _≤_, _<_}
-use mathlib.Core.Bool.{cond}
+use mathlib.Core.Bool.{false, cond, not}
 use mathlib.Core.List.{List, [], _∷_}
 use mathlib.Core.Path.{_≡_}
 use lib.Dec.{eqb}
 use lib.IntN.{ℤ, pos, negsuc}
 use lib.ListN.{replicate}
+use Rattle.models.specs.Models.{usualGains}
 use Rattle.state.specs.Rejections.{truncated}
 use Rattle.state.specs.States.{stateOf}
 use Rattle.state.specs.declared.State.{State}
@@ -19,16 +20,16 @@ use Rattle.drift.specs.Limits.{distance, SeasonalBound, WithinLimit, Cla
 use Rattle.drift.specs.Components.{OneUnit, StepError, HalfUnit, skipped}
 use Rattle.drift.specs.ForecastErrors.{exactFrom, DampedBound}
 
--- ---- states, at place 0: a season of m places; a damped trend
+-- ---- states, at place 0: a season of m places, opened by 18 where A + G is above 65,536; a damped trend
 abbrev pub seasonal : ℕ → ℕ → ℕ → ℤ → List ℤ → State
-seasonal m A G l values = stateOf 4 m A 0 G 0 l (pos 0) values 0 0
+seasonal m A G l values = stateOf (not (usualGains A 0 G)) 4 m A 0 G 0 l (pos 0) values 0 0
 
 abbrev pub damped : ℕ → ℕ → ℤ → ℤ → State
-damped A F l b = stateOf 2 0 A 0 0 F l b [] 0 0
+damped A F l b = stateOf false 2 0 A 0 0 F l b [] 0 0
 
 -- α = 1/2, so that 1/(2α) is 1
 abbrev pub plain : ℤ → State
-plain l = stateOf 0 0 32768 0 0 0 l (pos 0) [] 0 0
+plain l = stateOf false 0 0 32768 0 0 0 l (pos 0) [] 0 0
 
 -- an exact recursion that stands at L and n, with S at one place (the others are 0)
 abbrev pub standing : ℤ → ℕ → ℕ → ℤ → Exact
@@ -136,7 +137,7 @@ pub record Needed : Type 0 where
 -- ---- a run with every kind of call, from a count of 2^48 − 5: rejected are the reading 1,000,001 (13), the forecast at 513 (11), the call in place with a byte
 -- after the snapshot (3) and the one with a byte too few (4), the batch at its third reading (13), and the last reading, for the count is then full (14)
 abbrev pub opening : State
-opening = stateOf 4 2 20000 0 30001 0 (pos 0) (pos 0) (pos 65536 ∷ negsuc 65535 ∷ []) 0 281474976710651
+opening = stateOf false 4 2 20000 0 30001 0 (pos 0) (pos 0) (pos 65536 ∷ negsuc 65535 ∷ []) 0 281474976710651
 
 unfoldable pub calls : List Call
 calls =
@@ -158,6 +159,8 @@ pub record Shown : Type 0 where
   -- a step whose d is 1,000,000/65536 = 15.2.., rounded to 15
   pub step : StepError (damped 0 1 (pos 0) (pos 1000000)) (pos 0)
   pub opens : Opening opening
+  -- a state that 18 opened is an opening state too
+  pub opens-outside : Opening (creeping (pos 0))
   pub holds : ClaimOf opening (opened opening) calls
   pub short : inPlaceCode (sliceOf opening (cut 65)) ≡ truncated
   pub compares : compared (parametersOf opening) opening (opened opening) calls

@@ -1,4 +1,4 @@
--- Document 01, "Grains and states": the model byte, and the season lengths and parameters that a model allows.
+-- Document 01, "Grains and states": the model byte, and the season lengths and parameters that a model allows; document 02, W-201: the usual region.
 use Prim.Native.Nat.{ℕ, _+_, _*_, _/_, _%_}
 use mathlib.Core.Bool.{Bool, cond, not, _&&_, _||_}
 use lib.Dec.{eqb, leb}
@@ -41,3 +41,7 @@ dampingOk trend F = cond (eqb trend 0) (eqb F 0) (cond (eqb trend 1) (eqb F 6553
 abbrev pub parametersOk : ℕ → ℕ → ℕ → ℕ → ℕ → Bool
 parametersOk model A B G F =
     leb A 65536 && gainOk (hasTrend model) B && gainOk (hasSeason model) G && dampingOk (trendOf model) F
+
+-- the usual region of the gains: B not above A, and A + G not above 65,536
+abbrev pub usualGains : ℕ → ℕ → ℕ → Bool
+usualGains A B G = leb B A && leb (A + G) 65536

@@ -2,7 +2,7 @@
 // document 01, "Grains and states".
 ghost use mathlib.Core.Path.{_≡_};
 ghost use mathlib.Core.Bool.{cond};
-ghost use Rattle.models.specs.Models.{trendOf, seasonOf, hasTrend, hasSeason, modelByte, validModel, periodOk, gainOk, dampingOk, parametersOk};
+ghost use Rattle.models.specs.Models.{trendOf, seasonOf, hasTrend, hasSeason, modelByte, validModel, periodOk, gainOk, dampingOk, parametersOk, usualGains};
 
 // 1 in the 65,536ths that the parameters are counted in: the greatest of each.
 pub const ONE: u32 = 65536;
@@ -83,4 +83,11 @@ pub fn parameters_ok(model: u8, a: u32, b: u32, g: u32, f: u32) -> bool
         & gain_ok(has_trend(model), b)
         & gain_ok(has_season(model), g)
         & damping_ok(trend_of(model), f)
+}
+
+// The usual region of the gains; the sum of any two has room in 64 bits.
+pub fn usual_gains(a: u32, b: u32, g: u32) -> bool
+    ensures { λ r. ⌜ r ≡ usualGains a b g ⌝ }
+{
+    (b <= a) & ((a as u64) + (g as u64) <= (ONE as u64))
 }

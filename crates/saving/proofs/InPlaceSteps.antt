@@ -112,16 +112,16 @@ module _ (d : List ℕ) (ok : openCode d ≡ 0) (h : ℕ) where
       go false e = rw (eq-eqb (decoded d .period) 0 (no-season (decoded d) (accepted-passes d ok) e .period))
 
 -- ---- what is written
-encoded-is : (s : State) → encoded s ≡ snapshotOf (modelBytes (s .model) (s .period) (s .alpha) (s .beta) (s .gamma) (s .phi)) (s .level) (s .trend) (s .seasonal) (s .period) (s .index) (s .count)
+encoded-is : (s : State) → encoded s ≡ snapshotOf (modelBytes (s .outside) (s .model) (s .period) (s .alpha) (s .beta) (s .gamma) (s .phi)) (s .level) (s .trend) (s .seasonal) (s .period) (s .index) (s .count)
 unfolding encoded
 encoded-is s = refl
 
 module _ (s : State) (ok : check s ≡ 0) (full : length (s .seasonal) ≡ 48) where
   abbrev head : List ℕ
-  head = modelBytes (s .model) (s .period) (s .alpha) (s .beta) (s .gamma) (s .phi)
+  head = modelBytes (s .outside) (s .model) (s .period) (s .alpha) (s .beta) (s .gamma) (s .phi)
 
   head-length : length head ≡ 19
-  head-length = length-model (s .model) (s .period) (s .alpha) (s .beta) (s .gamma) (s .phi)
+  head-length = length-model (s .outside) (s .model) (s .period) (s .alpha) (s .beta) (s .gamma) (s .phi)
 
   abbrev snapshot : List ℤ → List ℕ
   snapshot cells = snapshotOf head (s .level) (s .trend) cells (s .period) (s .index) (s .count)

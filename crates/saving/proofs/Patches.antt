@@ -62,7 +62,7 @@ season-in cells k v (suc n) h l =
     ∙ ap (λ (b : List ℕ). b ++ seasonBytes n (getD cells n (pos 0))) (season-in cells k v n lt l)))
     (eq-or-lt-of-le (le-of-suc-le-suc h))
 
--- ---- the three writes, behind the bytes of a command 10
+-- ---- the three writes, behind the bytes of a command 10 or 18
 abbrev pub snapshotOf : List ℕ → ℤ → ℤ → List ℤ → ℕ → ℕ → ℕ → List ℕ
 snapshotOf model l b cells m p n = model ++ (levelBytes l b ++ (seasonsBytes cells m ++ positionBytes p n))
 

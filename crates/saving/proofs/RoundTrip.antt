@@ -1,43 +1,45 @@
 -- Both round trips of a snapshot: reading what was saved gives the state back, and saving what was read writes the same bytes.
 use Prim.Native.Nat.{ℕ, zero, suc, _+_, _*_, _≤_, _<_}
 use mathlib.Core.Path.{_≡_, refl, sym, ap, _∙_}
-use mathlib.Core.Bool.{Bool, true, false}
+use mathlib.Core.Bool.{Bool, true, false, not}
 use mathlib.Core.Logic.{⊎-elim}
-use mathlib.Core.List.{List, _∷_, _++_, append-assoc}
+use mathlib.Core.List.{List, [], _∷_, _++_, append-assoc, append-nil}
 use native.Mathlib.Nat.{le-refl, zero-add, add-zero, le-of-suc-le-suc, eq-or-lt-of-le, not-suc-le-zero, lt-of-le-of-lt}
 use native.Mathlib.Omega.{arith}
 use borrow.Author.Tests.{ltb-true, ltb-false, le-leb, lt-ltb}
-use lib.Dec.{lit<, ltb}
+use lib.Dec.{eqb, lit<, ltb}
 use lib.IntN.{ℤ, pos}
-use lib.ListN.{length, length-append, take, drop, getD}
+use lib.ListN.{length, length-append, take, drop, getD, set}
 use lib.Seq.{getD-drop, drop-drop, drop-at, take-at, drop-cons, length-take-le, take-all, ext-getD, take-add, sets, sets-eq}
 use mir.Syntax.{w64}
 use mir.Val.{SFits, ofZ}
 use Rattle.integers.specs.Bounds.{Within}
 use Rattle.integers.proofs.Bounds.{within-fits}
 use Rattle.state.specs.States.{check, cellOk}
+use Rattle.state.specs.Regions.{openedBy}
 use Rattle.state.specs.declared.State.{State}
 use Rattle.integers.proofs.Tests.{allBelow-at}
 use Rattle.models.proofs.ModelLaws.{model-again}
 use Rattle.state.proofs.Tests.{zero-is}
 use Rattle.state.specs.Valid.{Bounded}
 use Rattle.state.proofs.Passing.{Passed, passed, bounded}
+use Rattle.state.proofs.Regions.{region-laws}
 use Rattle.snapshot.specs.Bytes.{AreBytes, unsignedAt}
-use Rattle.snapshot.specs.CommandTable.{modelLength, levelLength, seasonLength, positionLength}
-use Rattle.snapshot.specs.Layout.{modelAt, levelAt, seasonAt, positionAt, sizeOf, modelIn, periodIn, alphaIn, betaIn, gammaIn, phiIn, levelIn, trendIn, seasonIn, indexIn, countIn}
+use Rattle.snapshot.specs.CommandTable.{opener, modelLength, levelLength, seasonLength, positionLength}
+use Rattle.snapshot.specs.Layout.{modelAt, levelAt, seasonAt, positionAt, sizeOf, outsideIn, modelIn, periodIn, alphaIn, betaIn, gammaIn, phiIn, levelIn, trendIn, seasonIn, indexIn, countIn}
 use Rattle.snapshot.specs.Snapshots.{openCode, openOffset, cellsAt, decoded, read, restOf}
 use Rattle.snapshot.specs.declared.reading.Scanned.{Scanned}
 use Rattle.snapshot.proofs.Accepting.{Due, Season, Accepted, accepted, accepts, accepted-size, period-most}
 use Rattle.snapshot.proofs.Decoded.{length-cells, cell-read, cell-none, accepted-passes}
 use Rattle.saving.specs.Encoding.{toBytes, signedBytes, modelBytes, levelBytes, seasonBytes, seasonsBytes, positionBytes, encoded}
 use Rattle.saving.specs.Saving.{save, saveCode, savedBytes}
-use Rattle.saving.specs.Promises.{ReadsSaved, SavesRead}
+use Rattle.saving.specs.Promises.{ReadsSaved, SavesRead, Reopens}
 use Rattle.saving.proofs.ByteLaws.{length-toBytes, unsigned-back, signed-back, unsigned-again, signed-again}
 
 -- ---- lengths
-pub length-model : (model m A B G F : ℕ) → length (modelBytes model m A B G F) ≡ modelLength
+pub length-model : (outside : Bool) (model m A B G F : ℕ) → length (modelBytes outside model m A B G F) ≡ modelLength
 unfolding modelBytes toBytes
-length-model model m A B G F = refl
+length-model outside model m A B G F = refl
 
 pub length-level : (l b : ℤ) → length (levelBytes l b) ≡ levelLength
 unfolding levelBytes toBytes
@@ -85,6 +87,11 @@ season-at cells (suc n) k u l =
     (λ (q : k ≡ n). (u, rw (q, append-assoc A B u) (drop-at A (B ++ u) (seasonLength * n) (length-seasons cells n))))
     (λ lt. rw (append-assoc A B u) (season-at cells n k (B ++ u) lt))
     (eq-or-lt-of-le (le-of-suc-le-suc l))
+
+-- the opening command tells which of the two it is
+opener-back : (outside : Bool) → eqb (opener outside) (opener true) ≡ outside
+opener-back true = refl
+opener-back false = refl
 
 -- a value in range has 64 bits
 pub fits : {v : ℤ} → Within 1099511627776 v → SFits w64 v
@@ -176,7 +183,11 @@ module _ (s : State) (t : List ℕ) (p : Passed s) (b : Bounded s) where
   position-due =
       record { byte = byte-at x (positionAt (s .period)) 0x13 (s .index) (toBytes 8 (s .count)) t last; room = omega (arith, size) }
 
-  model-due : Due x modelAt 0x10 modelLength
+  outside-back : outsideIn x ≡ s .outside
+  unfolding encoded modelBytes
+  outside-back = opener-back (s .outside)
+
+  model-due : Due x modelAt (opener (s .outside)) modelLength
   unfolding encoded modelBytes
   model-due = record { byte = refl; room = omega (arith, size) }
 
@@ -192,10 +203,10 @@ module _ (s : State) (t : List ℕ) (p : Passed s) (b : Bounded s) where
   accepted-back =
       record {
         model = record {
-          due = model-due;
+          due = rw outside-back model-due;
           valid = rw model-back (p .model);
           period = rw (model-back, period-back) (p .period);
-          parameters = rw (model-back, parameters-back .0, parameters-back .1, parameters-back .2, parameters-back .3, p .alpha, p .beta, p .gamma, p .phi);
+          parameters = rw (outside-back, model-back, parameters-back .0, parameters-back .1, parameters-back .2, parameters-back .3) (p .parameters);
         };
         level = record { due = level-due; values = rw (model-back, values-back .0, values-back .1, p .level, p .trend) };
         seasons = rw period-back (λ k l. season-back k l);
@@ -205,7 +216,7 @@ module _ (s : State) (t : List ℕ) (p : Passed s) (b : Bounded s) where
   decoded-back : length (s .seasonal) ≡ 48 → decoded x ≡ s
   unfolding decoded
   decoded-back l =
-      rw (period-back, model-back, parameters-back .0, parameters-back .1, parameters-back .2, parameters-back .3, values-back .0, values-back .1, seasonal-back l, index-back, count-back)
+      rw (outside-back, period-back, model-back, parameters-back .0, parameters-back .1, parameters-back .2, parameters-back .3, values-back .0, values-back .1, seasonal-back l, index-back, count-back)
 
 -- ---- reading what was saved, whatever follows it, gives the state back
 pub read-back : (s : State) (t : List ℕ) → length (s .seasonal) ≡ 48 → check s ≡ 0
@@ -232,7 +243,7 @@ indexed-at s at first i d e =
     rw (head-at s at 9 (omega arith), p, head-at s (at + 1) 8 (omega arith), d .byte, e, q)
 
 module _ (s : List ℕ) (b : AreBytes s) (a : Accepted s) where
-  model-same : modelBytes (modelIn s) (periodIn s) (alphaIn s) (betaIn s) (gammaIn s) (phiIn s) ≡ take modelLength s
+  model-same : modelBytes (outsideIn s) (modelIn s) (periodIn s) (alphaIn s) (betaIn s) (gammaIn s) (phiIn s) ≡ take modelLength s
   unfolding modelBytes
   model-same =
       let r = a .model .due .room in
@@ -305,3 +316,16 @@ saves-read s d b h l =
 -- a slice that holds one snapshot is the snapshot of its state
 pub whole : (d : List ℕ) → AreBytes d → openCode d ≡ 0 → openOffset d ≡ length d → encoded (decoded d) ≡ d
 whole d b ok e = saved-back d b ok ∙ rw e (take-all (length d) d (omega arith))
+
+-- ---- a snapshot that was saved by 10, before there was a region: its first byte changed to 18
+reopened-bytes : (s : State) → set (encoded (openedBy false s)) modelAt (opener true) ≡ encoded (openedBy true s)
+unfolding encoded modelBytes
+reopened-bytes s = refl
+
+pub reopens : Reopens
+unfolding read
+reopens s full ok outside =
+    let x = openedBy true s in
+    let passes : check x ≡ 0 = sym (ap (λ (u : Bool). check (openedBy (not u) s)) outside) ∙ region-laws .same s ∙ ok in
+    let r = rw (append-nil (encoded x)) at (read-back x [] full passes) in
+    record { bytes = reopened-bytes s; reads = rw (reopened-bytes s) (rw (r .0, r .2)) }

@@ -1,5 +1,6 @@
 -- Document 01, "Commands": the bytes of a snapshot (the paper's group), command for command.
 use Prim.Native.Nat.{ℕ, zero, suc, _/_, _%_}
+use mathlib.Core.Bool.{Bool}
 use mathlib.Core.List.{List, [], _∷_, _++_}
 use lib.IntN.{ℤ, pos}
 use lib.ListN.{getD}
@@ -7,6 +8,7 @@ use mir.Syntax.{w64}
 use mir.Val.{ofZ}
 use Rattle.models.specs.Models.{modelByte}
 use Rattle.state.specs.declared.State.{State}
+use Rattle.snapshot.specs.CommandTable.{opener}
 
 -- the k low bytes of n, low byte first
 unfoldable pub toBytes : ℕ → ℕ → List ℕ
@@ -21,8 +23,8 @@ signedBytes z = toBytes 8 (ofZ w64 z)
 abbrev pub parameterBytes : ℕ → ℕ → ℕ → ℕ → List ℕ
 parameterBytes A B G F = toBytes 4 A ++ (toBytes 4 B ++ (toBytes 4 G ++ toBytes 4 F))
 
-unfoldable pub modelBytes : ℕ → ℕ → ℕ → ℕ → ℕ → ℕ → List ℕ
-modelBytes model m A B G F = 0x10 ∷ modelByte model ∷ m ∷ parameterBytes A B G F
+unfoldable pub modelBytes : Bool → ℕ → ℕ → ℕ → ℕ → ℕ → ℕ → List ℕ
+modelBytes outside model m A B G F = opener outside ∷ modelByte model ∷ m ∷ parameterBytes A B G F
 
 unfoldable pub levelBytes : ℤ → ℤ → List ℕ
 levelBytes l b = 0x11 ∷ (signedBytes l ++ signedBytes b)
@@ -41,7 +43,7 @@ positionBytes p n = 0x13 ∷ p ∷ toBytes 8 n
 -- ---- the snapshot of a state
 unfoldable pub encoded : State → List ℕ
 encoded s =
-    modelBytes (s .model) (s .period) (s .alpha) (s .beta) (s .gamma) (s .phi)
+    modelBytes (s .outside) (s .model) (s .period) (s .alpha) (s .beta) (s .gamma) (s .phi)
     ++ (levelBytes (s .level) (s .trend)
     ++ (seasonsBytes (s .seasonal) (s .period)
     ++ positionBytes (s .index) (s .count)))

@@ -1,17 +1,20 @@
--- The promises about whole calls: both round trips of a snapshot, and that a call in place is the direct call.
+-- The promises about whole calls: both round trips of a snapshot, a snapshot saved before W-201, and that a call in place is the direct call.
 use Prim.Native.Nat.{ℕ, _≤_}
 use mathlib.Core.Path.{_≡_}
+use mathlib.Core.Bool.{true, false}
 use mathlib.Core.List.{List, _++_}
 use lib.IntN.{ℤ}
-use lib.ListN.{length, take, drop}
+use lib.ListN.{length, take, drop, set}
 use Rattle.state.specs.Rejections.{accepting}
 use Rattle.state.specs.States.{check}
+use Rattle.state.specs.Regions.{openedBy, isUsual, plainCheck}
 use Rattle.state.specs.declared.State.{State}
 use Rattle.state.specs.declared.Outcome.the-variants as outcome-of
 use Rattle.ets.specs.Steps.{stepCode, residualOf, missingCode, step, missing}
 use Rattle.forecasts.specs.Forecasts.{forecastCode, forecastOf}
 use Rattle.snapshot.specs.Bytes.{AreBytes}
-use Rattle.snapshot.specs.Layout.{sizeOf}
+use Rattle.snapshot.specs.CommandTable.{opener}
+use Rattle.snapshot.specs.Layout.{modelAt, sizeOf}
 use Rattle.snapshot.specs.Snapshots.{openCode, openOffset, decoded, read, restOf}
 use Rattle.snapshot.specs.Slices.{inPlaceCode}
 use Rattle.saving.specs.Encoding.{encoded}
@@ -34,6 +37,14 @@ pub record SavedBack (s d : List ℕ) : Type 0 where
 
 abbrev pub SavesRead : Type 0
 SavesRead = (s d : List ℕ) → AreBytes s → openCode s ≡ 0 → openOffset s ≤ length d → SavedBack s d
+
+-- a snapshot with gains outside the usual region that was saved by 10 (before document 02, W-201), its first byte changed to 18, is the one that saving now writes, and opens the state
+pub record Reopened (s : State) : Type 0 where
+  pub bytes : set (encoded (openedBy false s)) modelAt (opener true) ≡ encoded (openedBy true s)
+  pub reads : read (set (encoded (openedBy false s)) modelAt (opener true)) ≡ record { outcome = outcome-of.Accepted; state = openedBy true s }
+
+abbrev pub Reopens : Type 0
+Reopens = (s : State) → length (s .seasonal) ≡ 48 → plainCheck s ≡ 0 → isUsual s ≡ false → Reopened s
 
 -- a call in place on the snapshot of a state is the direct call on the state: the number returned, the snapshot that the slice then holds, how that reads, and the lent number
 pub record StepInPlace (s : State) (y : ℤ) : Type 0 where

@@ -14,6 +14,7 @@ use snapshot::layout::PERIOD_AT;
 use snapshot::layout::PHI_AT;
 use snapshot::layout::TREND_VALUE_AT;
 use snapshot::layout::season_at;
+use snapshot::opener;
 use state::State;
 ghost use mathlib.Core.Path.{_≡_};
 ghost use Prim.Native.Nat.{_+_, _≤_};
@@ -33,12 +34,21 @@ fn write_parameters(d: &mut [u8], alpha: u32, beta: u32, gamma: u32, phi: u32)
     write_le(d, PHI_AT, 4, phi as u64);
 }
 
-fn write_model(d: &mut [u8], model: u8, period: u8, alpha: u32, beta: u32, gamma: u32, phi: u32)
+fn write_model(
+    d: &mut [u8],
+    outside: bool,
+    model: u8,
+    period: u8,
+    alpha: u32,
+    beta: u32,
+    gamma: u32,
+    phi: u32,
+)
     requires { ⌜ modelLength ≤ length (now d) ⌝ }
-    ensures { λ _. ⌜ now (d .exit) ≡ sets (now (d .entry)) modelAt (modelBytes model period alpha beta gamma phi) ⌝ }
+    ensures { λ _. ⌜ now (d .exit) ≡ sets (now (d .entry)) modelAt (modelBytes outside model period alpha beta gamma phi) ⌝ }
 {
     let byte = model_byte(model);
-    write_byte(d, MODEL_AT, 0x10);
+    write_byte(d, MODEL_AT, opener(outside));
     write_byte(d, MODEL_BYTE_AT, byte);
     write_byte(d, PERIOD_AT, period);
     write_parameters(d, alpha, beta, gamma, phi);
@@ -93,7 +103,16 @@ pub fn write_snapshot(d: &mut [u8], s: State)
     requires { ⌜ (s .period ≤ 48) × (sizeOf (s .period) ≤ length (now d)) ⌝ }
     ensures { λ _. ⌜ now (d .exit) ≡ sets (now (d .entry)) modelAt (encoded s) ⌝ }
 {
-    write_model(d, s.model, s.period, s.alpha, s.beta, s.gamma, s.phi);
+    write_model(
+        d,
+        s.outside,
+        s.model,
+        s.period,
+        s.alpha,
+        s.beta,
+        s.gamma,
+        s.phi,
+    );
     write_level(d, s.level, s.trend);
     write_seasons(d, s.period, &s.seasonal);
     write_position(d, s.period, s.index, s.count);

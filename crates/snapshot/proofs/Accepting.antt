@@ -1,7 +1,7 @@
 -- What an accepted snapshot has, command for command, and that what has it is accepted.
 use Prim.Native.Nat.{ℕ, zero, suc, _+_, _-_, _≤_, _<_}
 use mathlib.Core.Path.{_≡_, refl, ap}
-use mathlib.Core.Bool.{true, _&&_}
+use mathlib.Core.Bool.{Bool, true, false, _&&_}
 use mathlib.Core.List.{List}
 use native.Mathlib.Decide.{decLe}
 use native.Mathlib.Omega.{arith}
@@ -10,13 +10,13 @@ use lib.Dec.{eqb, ltb, eqb·suc-zero}
 use lib.ListN.{length, getD}
 use Rattle.state.specs.Rejections.{unless, unknown-command, out-of-place, truncated}
 use Rattle.state.specs.Fixed.{inRange}
-use Rattle.models.specs.Models.{hasSeason, validModel, periodOk, parametersOk}
-use Rattle.state.specs.States.{trendOk, indexOk, countOk}
+use Rattle.models.specs.Models.{hasSeason, validModel, periodOk}
+use Rattle.state.specs.States.{parametersCode, trendOk, indexOk, countOk}
 use Rattle.state.proofs.Passing.{period-le}
 use Rattle.integers.proofs.Tests.{both}
 use Rattle.state.proofs.Tests.{unless-zero, then-zero}
-use Rattle.snapshot.specs.CommandTable.{commandSize, isCommand, modelLength, levelLength, seasonLength, positionLength}
-use Rattle.snapshot.specs.Layout.{modelAt, levelAt, seasonAt, positionAt, sizeOf, modelIn, periodIn, alphaIn, betaIn, gammaIn, phiIn, levelIn, trendIn, seasonIndexIn, seasonIn, indexIn, countIn}
+use Rattle.snapshot.specs.CommandTable.{commandSize, isCommand, opener, modelLength, levelLength, seasonLength, positionLength}
+use Rattle.snapshot.specs.Layout.{modelAt, levelAt, seasonAt, positionAt, sizeOf, outsideIn, modelIn, periodIn, alphaIn, betaIn, gammaIn, phiIn, levelIn, trendIn, seasonIndexIn, seasonIn, indexIn, countIn}
 use Rattle.snapshot.specs.Snapshots.{dueCode, modelCode, levelCode, seasonCode, positionCode, finished, scanPosition, scanSeasons, scan, openCode, openOffset}
 use Rattle.snapshot.specs.Slices.{inPlaceCode}
 use Rattle.snapshot.specs.Facts.{Room}
@@ -43,24 +43,41 @@ is-due {s} {at} {first} i p d =
     let r = d .room in
     rw (lt-ltb at (length s) (omega arith), d .byte, i, eq-eqb first first refl, le-leb (commandSize first) (length s - at) (omega arith))
 
--- ---- the command 10
+-- ---- the command 10 or 18
+pub opener-size : (outside : Bool) → commandSize (opener outside) ≡ modelLength
+unfolding commandSize
+opener-size true = refl
+opener-size false = refl
+
+pub opener-command : (outside : Bool) → isCommand (opener outside) ≡ true
+unfolding isCommand commandSize
+opener-command true = refl
+opener-command false = refl
+
 pub record Model (s : List ℕ) : Type 0 where
-  pub due : Due s modelAt 0x10 modelLength
+  pub due : Due s modelAt (opener (outsideIn s)) modelLength
   pub valid : validModel (modelIn s) ≡ true
   pub period : periodOk (modelIn s) (periodIn s) ≡ true
-  pub parameters : parametersOk (modelIn s) (alphaIn s) (betaIn s) (gammaIn s) (phiIn s) ≡ true
+  pub parameters : parametersCode (outsideIn s) (modelIn s) (alphaIn s) (betaIn s) (gammaIn s) (phiIn s) ≡ 0
 
 pub model : (s : List ℕ) → modelCode s ≡ 0 → Model s
-unfolding modelCode commandSize
+unfolding modelCode
 model s h =
     let c = then-zero _ _ h in
     let d = then-zero _ _ (c .1) in
     let e = then-zero _ _ (d .1) in
-    record { due = due s modelAt 0x10 (c .0); valid = unless-zero _ 4 (d .0); period = unless-zero _ 5 (e .0); parameters = unless-zero _ 6 (e .1) }
+    record {
+      due = rw (opener-size (outsideIn s)) at (due s modelAt (opener (outsideIn s)) (c .0));
+      valid = unless-zero _ 4 (d .0);
+      period = unless-zero _ 5 (e .0);
+      parameters = e .1;
+    }
 
 is-model : {s : List ℕ} → Model s → modelCode s ≡ 0
-unfolding modelCode isCommand commandSize
-is-model c = rw (is-due refl (omega arith) (c .due), c .valid, c .period, c .parameters)
+unfolding modelCode
+is-model {s} c =
+    let n = opener-size (outsideIn s) in
+    rw (is-due {s = s} {at = modelAt} {first = opener (outsideIn s)} (opener-command (outsideIn s)) (omega arith) (rw n (c .due)), c .valid, c .period, c .parameters)
 
 pub period-most : {s : List ℕ} → Model s → periodIn s ≤ 48
 period-most {s} c = period-le (hasSeason (modelIn s)) (periodIn s) (c .period)

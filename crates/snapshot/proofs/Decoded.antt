@@ -55,19 +55,13 @@ pub accepted-passes : (s : List ℕ) → openCode s ≡ 0 → check (decoded s) 
 unfolding decoded
 accepted-passes s h =
     let a = accepted s h in
-    let q4 = both _ _ (a .model .parameters) in
-    let q3 = both _ _ (q4 .0) in
-    let q2 = both _ _ (q3 .0) in
     let v = both _ _ (a .level .values) in
     let i = both _ _ (a .position .ok) in
     passes (decoded s)
     (record {
       model = a .model .valid;
       period = a .model .period;
-      alpha = q2 .0;
-      beta = q2 .1;
-      gamma = q3 .1;
-      phi = q4 .1;
+      parameters = a .model .parameters;
       level = v .0;
       trend = v .1;
       seasonal = allBelow-all 48 (λ (k : ℕ). cellOk (periodIn s) k (getD (cellsAt s (periodIn s)) k (pos 0))) (cell-passes s a);

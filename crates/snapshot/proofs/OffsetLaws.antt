@@ -1,7 +1,7 @@
 -- The offset of a rejection lies in the stream; rejection 4 tells the stream's length where no command is begun.
 use Prim.Native.Nat.{ℕ, zero, suc, _+_, _-_, _≤_, _<_}
 use mathlib.Core.Path.{_≡_, refl}
-use mathlib.Core.Bool.{Bool, true, false, _&&_}
+use mathlib.Core.Bool.{Bool, true, false, not, _&&_, _||_}
 use mathlib.Core.Logic.{_⊎_, inl, inr}
 use mathlib.Core.List.{List}
 use native.Mathlib.Omega.{arith}
@@ -10,10 +10,10 @@ use lib.Dec.{eqb, ltb, leb, eqb·suc-zero}
 use lib.ListN.{length, getD}
 use Rattle.state.specs.Rejections.{unless, _then_, truncated, unknown-command, out-of-place}
 use Rattle.state.specs.Fixed.{inRange}
-use Rattle.models.specs.Models.{validModel, periodOk, parametersOk}
-use Rattle.state.specs.States.{trendOk, indexOk, countOk}
-use Rattle.snapshot.specs.CommandTable.{commandSize, isCommand}
-use Rattle.snapshot.specs.Layout.{modelAt, levelAt, seasonAt, positionAt, sizeOf, modelIn, periodIn, alphaIn, betaIn, gammaIn, phiIn, levelIn, trendIn, seasonIndexIn, seasonIn, indexIn, countIn}
+use Rattle.models.specs.Models.{validModel, periodOk, parametersOk, usualGains}
+use Rattle.state.specs.States.{parametersCode, trendOk, indexOk, countOk}
+use Rattle.snapshot.specs.CommandTable.{commandSize, isCommand, opener}
+use Rattle.snapshot.specs.Layout.{modelAt, levelAt, seasonAt, positionAt, sizeOf, outsideIn, modelIn, periodIn, alphaIn, betaIn, gammaIn, phiIn, levelIn, trendIn, seasonIndexIn, seasonIn, indexIn, countIn}
 use Rattle.snapshot.specs.Snapshots.{dueCode, modelCode, levelCode, seasonCode, positionCode, finished, scanPosition, scanSeasons, scan}
 use Rattle.snapshot.specs.Promises.{Offsets}
 use Rattle.snapshot.specs.declared.reading.Scanned.{Scanned}
@@ -75,15 +75,24 @@ seasons-at s k (suc n) r l f =
     let w = season s k z .due .room in
     seasons-at s (suc k) n r (omega arith) (λ g. f (omega arith)))
 
+not-parameters : (outside : Bool) (model A B G F : ℕ) → parametersCode outside model A B G F ≡ 4 → ⊥
+unfolding parametersCode
+not-parameters outside model A B G F =
+    let g = parametersOk model A B G F && not (outside && usualGains A B G) in
+    let r = outside || usualGains A B G in
+    not-both (unless g 7) (unless r 16) (not-one g 7 (λ e. omega arith)) (not-one r 16 (λ e. omega arith))
+
 model-cut : (s : List ℕ) → modelCode s ≡ 4 → Cut s modelAt
 unfolding modelCode
 model-cut s h =
     let m = validModel (modelIn s) in
     let p = periodOk (modelIn s) (periodIn s) in
-    let g = parametersOk (modelIn s) (alphaIn s) (betaIn s) (gammaIn s) (phiIn s) in
-    due-cut s modelAt 0x10 (omega arith)
-    (later (dueCode s modelAt 0x10) (unless m 5 then unless p 6 then unless g 7) h
-    (not-both (unless m 5) (unless p 6 then unless g 7) (not-one m 5 (λ e. omega arith)) (not-both (unless p 6) (unless g 7) (not-one p 6 (λ e. omega arith)) (not-one g 7 (λ e. omega arith)))))
+    let g = parametersCode (outsideIn s) (modelIn s) (alphaIn s) (betaIn s) (gammaIn s) (phiIn s) in
+    let first = opener (outsideIn s) in
+    due-cut s modelAt first (omega arith)
+    (later (dueCode s modelAt first) (unless m 5 then unless p 6 then g) h
+    (not-both (unless m 5) (unless p 6 then g) (not-one m 5 (λ e. omega arith))
+    (not-both (unless p 6) g (not-one p 6 (λ e. omega arith)) (not-parameters (outsideIn s) (modelIn s) (alphaIn s) (betaIn s) (gammaIn s) (phiIn s)))))
 
 level-cut : (s : List ℕ) → levelAt ≤ length s → levelCode s ≡ 4 → Cut s levelAt
 unfolding levelCode

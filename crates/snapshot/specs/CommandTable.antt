@@ -1,6 +1,6 @@
--- Document 01, "Commands": each command's first byte, its length with its operands, and whether only a snapshot (the paper's group) holds it.
+-- Document 01, "Commands", and document 02, W-201 (18): each command's first byte, its length with its operands, and whether only a snapshot (the paper's group) holds it.
 use Prim.Native.Nat.{ℕ}
-use mathlib.Core.Bool.{Bool, true, false, cond, not}
+use mathlib.Core.Bool.{Bool, true, false, cond, not, _||_}
 use mathlib.Core.List.{List, [], _∷_}
 use lib.Dec.{eqb}
 use Rattle.state.specs.Rejections.{unless, unknown-command}
@@ -37,6 +37,7 @@ commands =
     ∷ command 0x11 levelLength true
     ∷ command 0x12 seasonLength true
     ∷ command 0x13 positionLength true
+    ∷ command 0x18 modelLength false
     ∷ command 0x20 5 false
     ∷ command 0x21 1 false
     ∷ command 0x30 3 false
@@ -62,6 +63,14 @@ innerIn (c ∷ cs) b = cond (eqb b (c .first)) (c .inner) (innerIn cs b)
 
 unfoldable pub onlyInSnapshot : ℕ → Bool
 onlyInSnapshot b = innerIn commands b
+
+-- the command that opens a snapshot: 18 for gains outside the usual region, else 10
+abbrev pub opener : Bool → ℕ
+opener outside = cond outside 0x18 0x10
+
+-- the two of them
+unfoldable pub opens : ℕ → Bool
+opens b = eqb b (opener false) || eqb b (opener true)
 
 -- the call: a command's length, or 2
 unfoldable pub commandLength : ℕ → Length

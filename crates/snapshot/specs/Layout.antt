@@ -1,11 +1,13 @@
--- Document 01, "Commands": a snapshot (the paper's group) is the commands 10, 11, then 12 for the places 0 to m − 1 rising, then 13.
+-- Document 01, "Commands": a snapshot (the paper's group) is the commands 10 (document 02, W-201: or 18), 11, then 12 for the places 0 to m − 1 rising, then 13.
 -- Where each command stands, and its operands in a stream: these numbers stand nowhere else.
 use Prim.Native.Nat.{ℕ, _+_, _*_}
+use mathlib.Core.Bool.{Bool, true}
 use mathlib.Core.List.{List}
+use lib.Dec.{eqb}
 use lib.IntN.{ℤ}
 use lib.ListN.{getD}
 use Rattle.snapshot.specs.Bytes.{unsignedAt, signedAt}
-use Rattle.snapshot.specs.CommandTable.{modelLength, levelLength, seasonLength, positionLength}
+use Rattle.snapshot.specs.CommandTable.{opener, modelLength, levelLength, seasonLength, positionLength}
 
 -- ---- where each command stands
 abbrev pub modelAt : ℕ
@@ -25,6 +27,10 @@ positionAt m = seasonAt m
 -- a snapshot is 46 + 10 × m bytes
 abbrev pub sizeOf : ℕ → ℕ
 sizeOf m = positionAt m + positionLength
+
+-- whether 18 opens it
+abbrev pub outsideIn : List ℕ → Bool
+outsideIn s = eqb (getD s modelAt 0) (opener true)
 
 -- ---- their operands
 abbrev pub modelIn : List ℕ → ℕ

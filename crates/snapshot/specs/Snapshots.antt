@@ -1,17 +1,17 @@
--- Document 01, "Commands" and the refusals 2 to 10 of a snapshot (the paper's group): reading one.
+-- Document 01, "Commands" and the refusals 2 to 10 and 16 of a snapshot (the paper's group): reading one.
 use Prim.Native.Nat.{ℕ, zero, suc, _-_}
 use mathlib.Core.Bool.{_&&_}
 use mathlib.Core.List.{List}
 use lib.Dec.{eqb, ltb, leb}
 use lib.IntN.{ℤ, pos}
 use lib.ListN.{length, drop, getD, set, replicate}
-use Rattle.state.specs.Rejections.{unless, _then_, outcome, unknown-command, out-of-place, truncated, bad-model, bad-period, bad-parameter, wrong-index, bad-value, bad-position, accepting}
+use Rattle.state.specs.Rejections.{unless, _then_, outcome, unknown-command, out-of-place, truncated, bad-model, bad-period, wrong-index, bad-value, bad-position, accepting}
 use Rattle.state.specs.Fixed.{inRange}
-use Rattle.models.specs.Models.{validModel, periodOk, parametersOk}
-use Rattle.state.specs.States.{trendOk, indexOk, countOk, noState}
+use Rattle.models.specs.Models.{validModel, periodOk}
+use Rattle.state.specs.States.{parametersCode, trendOk, indexOk, countOk, noState}
 use Rattle.state.specs.declared.State.{State}
-use Rattle.snapshot.specs.CommandTable.{commandSize, isCommand}
-use Rattle.snapshot.specs.Layout.{modelAt, levelAt, seasonAt, positionAt, sizeOf, modelIn, periodIn, alphaIn, betaIn, gammaIn, phiIn, levelIn, trendIn, seasonIndexIn, seasonIn, indexIn, countIn}
+use Rattle.snapshot.specs.CommandTable.{commandSize, isCommand, opener}
+use Rattle.snapshot.specs.Layout.{modelAt, levelAt, seasonAt, positionAt, sizeOf, outsideIn, modelIn, periodIn, alphaIn, betaIn, gammaIn, phiIn, levelIn, trendIn, seasonIndexIn, seasonIn, indexIn, countIn}
 use Rattle.snapshot.specs.declared.Opened.{Opened}
 use Rattle.snapshot.specs.declared.reading.Scanned.{Scanned}
 
@@ -23,13 +23,13 @@ dueCode s at first =
     then unless (eqb (getD s at 0) first) out-of-place
     then unless (leb (commandSize first) (length s - at)) truncated
 
--- 10
+-- 18 where the bytes begin with it, else 10
 unfoldable pub modelCode : List ℕ → ℕ
 modelCode s =
-    dueCode s modelAt 0x10
+    dueCode s modelAt (opener (outsideIn s))
     then unless (validModel (modelIn s)) bad-model
     then unless (periodOk (modelIn s) (periodIn s)) bad-period
-    then unless (parametersOk (modelIn s) (alphaIn s) (betaIn s) (gammaIn s) (phiIn s)) bad-parameter
+    then parametersCode (outsideIn s) (modelIn s) (alphaIn s) (betaIn s) (gammaIn s) (phiIn s)
 
 -- 11
 unfoldable pub levelCode : List ℕ → ℕ
@@ -84,6 +84,7 @@ cellsAt s (suc n) = set (cellsAt s n) n (seasonIn s n)
 unfoldable pub decoded : List ℕ → State
 decoded s =
     record {
+      outside = outsideIn s;
       model = modelIn s;
       period = periodIn s;
       alpha = alphaIn s;

@@ -7,11 +7,13 @@ use super::layout::ALPHA_AT;
 use super::layout::BETA_AT;
 use super::layout::GAMMA_AT;
 use super::layout::LEVEL_VALUE_AT;
+use super::layout::MODEL_AT;
 use super::layout::MODEL_BYTE_AT;
 use super::layout::PERIOD_AT;
 use super::layout::PHI_AT;
 use super::layout::TREND_VALUE_AT;
 use super::layout::season_at;
+use super::table::opener;
 use ets::Numbers;
 use state::State;
 ghost use mathlib.Core.Path.{_≡_};
@@ -21,10 +23,20 @@ ghost use lib.Dec.{eqb};
 ghost use lib.IntN.{pos};
 ghost use lib.ListN.{length, replicate};
 ghost use Rattle.snapshot.specs.CommandTable.{seasonLength};
-ghost use Rattle.snapshot.specs.Layout.{seasonAt, periodIn, seasonIn, indexIn};
+ghost use Rattle.snapshot.specs.Layout.{seasonAt, outsideIn, periodIn, seasonIn, indexIn};
 ghost use Rattle.snapshot.specs.Snapshots.{cellsAt, decoded};
 ghost use Rattle.snapshot.specs.Slices.{checkedIn};
 ghost use Rattle.snapshot.specs.Facts.{Room};
+
+// Whether the bytes begin with 18.
+pub fn is_outside(s: &[u8]) -> bool
+    ensures { λ r. ⌜ r ≡ outsideIn (now (s .entry)) ⌝ }
+{
+    if s.len() <= MODEL_AT {
+        return false;
+    }
+    s[MODEL_AT] == opener(true)
+}
 
 // The season value of index k.
 pub fn season_in(s: &[u8], k: u8) -> i64
@@ -90,6 +102,7 @@ pub fn state_at(s: &[u8]) -> State
     let x = checked_at(s);
     let n = x.numbers;
     let mut state = State {
+        outside: is_outside(s),
         model: s[MODEL_BYTE_AT],
         period: x.period,
         alpha: n.alpha,

@@ -13,7 +13,7 @@ pub const LEVEL_AT: usize = MODEL_AT + MODEL_LENGTH;
 
 const SEASONS_AT: usize = LEVEL_AT + LEVEL_LENGTH;
 
-// The operands of 10 and 11.
+// The operands of 10 or 18, and of 11.
 pub const MODEL_BYTE_AT: usize = MODEL_AT + 1;
 
 pub const PERIOD_AT: usize = MODEL_AT + 2;
@@ -37,7 +37,7 @@ pub fn season_at(k: u8) -> usize
     SEASONS_AT + SEASON_LENGTH * (k as usize)
 }
 
-// The commands of every snapshot, 10, 11 and 13: its length without season values.
+// The commands of every snapshot, 10 or 18, 11 and 13: its length without season values.
 const FIXED_LENGTH: usize = SEASONS_AT + POSITION_LENGTH;
 
 // The length of the longest snapshot.

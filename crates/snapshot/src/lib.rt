@@ -16,6 +16,8 @@ use state::no_state;
 pub use table::command_length;
 pub use table::is_command;
 pub use table::only_in_snapshot;
+pub use table::opener;
+pub use table::opens;
 ghost use mathlib.Core.Path.{_≡_};
 ghost use Rattle.snapshot.specs.Snapshots.{openCode, read, restOf};
 

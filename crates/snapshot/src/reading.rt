@@ -2,6 +2,7 @@
 use super::bytes::read_i64;
 use super::bytes::read_le;
 use super::bytes::read_u32;
+use super::fields::is_outside;
 use super::layout::ALPHA_AT;
 use super::layout::BETA_AT;
 use super::layout::GAMMA_AT;
@@ -16,11 +17,10 @@ use super::layout::season_at;
 use super::table::POSITION_LENGTH;
 use super::table::entry_of;
 use super::table::is_command;
+use super::table::opener;
 use models::model_ok;
-use models::parameters_ok;
 use models::period_ok;
 use state::BAD_MODEL;
-use state::BAD_PARAMETER;
 use state::BAD_PERIOD;
 use state::BAD_POSITION;
 use state::BAD_VALUE;
@@ -31,6 +31,7 @@ use state::WRONG_INDEX;
 use state::checks::count_ok;
 use state::checks::in_range;
 use state::checks::index_ok;
+use state::checks::parameters_code;
 use state::checks::trend_ok;
 use state::first;
 use state::unless;
@@ -39,8 +40,7 @@ ghost use mathlib.Core.Bool.{true, _&&_};
 ghost use Prim.Native.Nat.{_+_, _≤_};
 ghost use lib.ListN.{length};
 ghost use Rattle.state.specs.Fixed.{inRange};
-ghost use Rattle.models.specs.Models.{parametersOk};
-ghost use Rattle.state.specs.States.{trendOk};
+ghost use Rattle.state.specs.States.{parametersCode, trendOk};
 ghost use Rattle.snapshot.specs.CommandTable.{isCommand, modelLength, levelLength};
 ghost use Rattle.snapshot.specs.Layout.{levelAt, seasonAt, modelIn, alphaIn, betaIn, gammaIn, phiIn, levelIn, trendIn};
 ghost use Rattle.snapshot.specs.Snapshots.{dueCode, modelCode, levelCode, seasonCode, positionCode, scanPosition, scanSeasons, scan};
@@ -71,11 +71,12 @@ fn due(s: &[u8], at: usize, first: u8) -> u8
     unless(e.0 <= left, TRUNCATED)
 }
 
-fn parameters_at(s: &[u8]) -> bool
+fn parameters_at(s: &[u8], outside: bool) -> u8
     requires { ⌜ modelLength ≤ length (now s) ⌝ }
-    ensures { λ r. ⌜ r ≡ parametersOk (modelIn (now (s .entry))) (alphaIn (now (s .entry))) (betaIn (now (s .entry))) (gammaIn (now (s .entry))) (phiIn (now (s .entry))) ⌝ }
+    ensures { λ r. ⌜ r ≡ parametersCode outside (modelIn (now (s .entry))) (alphaIn (now (s .entry))) (betaIn (now (s .entry))) (gammaIn (now (s .entry))) (phiIn (now (s .entry))) ⌝ }
 {
-    parameters_ok(
+    parameters_code(
+        outside,
         s[MODEL_BYTE_AT],
         read_u32(s, ALPHA_AT),
         read_u32(s, BETA_AT),
@@ -87,14 +88,15 @@ fn parameters_at(s: &[u8]) -> bool
 fn model_code(s: &[u8]) -> u8
     ensures { λ r. ⌜ r ≡ modelCode (now (s .entry)) ⌝ }
 {
-    let due_code = due(s, MODEL_AT, 0x10);
+    let outside = is_outside(s);
+    let due_code = due(s, MODEL_AT, opener(outside));
     if due_code != 0 {
         return due_code;
     }
     let model = s[MODEL_BYTE_AT];
     let mut code = unless(model_ok(model), BAD_MODEL);
     code = first(code, unless(period_ok(model, s[PERIOD_AT]), BAD_PERIOD));
-    first(code, unless(parameters_at(s), BAD_PARAMETER))
+    first(code, parameters_at(s, outside))
 }
 
 fn values_at(s: &[u8]) -> bool

@@ -2,7 +2,7 @@
 use super::Length;
 use state::UNKNOWN_COMMAND;
 ghost use mathlib.Core.Path.{_≡_};
-ghost use Rattle.snapshot.specs.CommandTable.{commandSize, isCommand, onlyInSnapshot, commandLength};
+ghost use Rattle.snapshot.specs.CommandTable.{commandSize, isCommand, onlyInSnapshot, opener, opens, commandLength};
 
 pub const MODEL_LENGTH: usize = 19;
 
@@ -25,6 +25,7 @@ pub fn entry_of(b: u8) -> Entry
         0x11 => Entry(LEVEL_LENGTH, true),
         0x12 => Entry(SEASON_LENGTH, true),
         0x13 => Entry(POSITION_LENGTH, true),
+        0x18 => Entry(MODEL_LENGTH, false),
         0x20 => Entry(5, false),
         0x21 => Entry(1, false),
         0x30 => Entry(3, false),
@@ -32,6 +33,20 @@ pub fn entry_of(b: u8) -> Entry
         0x40 => Entry(1, false),
         _ => Entry(0, false),
     }
+}
+
+// The command that opens a snapshot: 18 for gains outside the usual region, else 10.
+pub fn opener(outside: bool) -> u8
+    ensures { λ r. ⌜ r ≡ opener outside ⌝ }
+{
+    if outside { 0x18 } else { 0x10 }
+}
+
+// Whether a byte begins a snapshot.
+pub fn opens(b: u8) -> bool
+    ensures { λ r. ⌜ r ≡ opens b ⌝ }
+{
+    (b == 0x10) | (b == 0x18)
 }
 
 pub fn is_command(b: u8) -> bool

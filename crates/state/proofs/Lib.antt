@@ -2,3 +2,4 @@ pub mod Tests
 pub mod Answers
 pub mod Rounding
 pub mod Passing
+pub mod Regions

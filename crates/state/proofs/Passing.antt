@@ -1,7 +1,7 @@
 -- What a state has that the checks let pass, and that what has it passes.
 use Prim.Native.Nat.{ℕ, _<_, _≤_}
 use mathlib.Core.Path.{_≡_, refl}
-use mathlib.Core.Bool.{Bool, true, false, cond, _&&_}
+use mathlib.Core.Bool.{Bool, true, false, cond, not, _&&_}
 use native.Mathlib.Omega.{arith}
 use lib.Dec.{eqb, ltb, leb}
 use lib.IntN.{ℤ, pos, negℤ}
@@ -12,21 +12,18 @@ use Rattle.integers.specs.Bounds.{Within}
 use Rattle.integers.proofs.Difference.{ints}
 use Rattle.integers.proofs.Bounds.{within-zero}
 use Rattle.state.specs.Fixed.{within, inRange, isReading, isZero, maxCount}
-use Rattle.models.specs.Models.{trendOf, hasTrend, hasSeason, validModel, periodOk, gainOk, dampingOk}
-use Rattle.state.specs.States.{trendOk, cellOk, seasonalOk, indexOk, countOk, check, noState}
+use Rattle.models.specs.Models.{trendOf, hasTrend, hasSeason, validModel, periodOk, gainOk, dampingOk, parametersOk, usualGains}
+use Rattle.state.specs.States.{parametersCode, trendOk, cellOk, seasonalOk, indexOk, countOk, check, noState}
 use Rattle.state.specs.Valid.{Bounded, NoTrend, NoSeason, Seasonal, Valid}
 use Rattle.state.specs.declared.State.{State}
 use Rattle.integers.proofs.Tests.{both, allBelow-at}
-use Rattle.state.proofs.Tests.{unless-zero, then-zero, zero-is}
+use Rattle.state.proofs.Tests.{unless-zero, unless-then, then-zero, zero-is}
 
 -- the checks as tests, in their order
 pub record Passed (s : State) : Type 0 where
   pub model : validModel (s .model) ≡ true
   pub period : periodOk (s .model) (s .period) ≡ true
-  pub alpha : leb (s .alpha) 65536 ≡ true
-  pub beta : gainOk (hasTrend (s .model)) (s .beta) ≡ true
-  pub gamma : gainOk (hasSeason (s .model)) (s .gamma) ≡ true
-  pub phi : dampingOk (trendOf (s .model)) (s .phi) ≡ true
+  pub parameters : parametersCode (s .outside) (s .model) (s .alpha) (s .beta) (s .gamma) (s .phi) ≡ 0
   pub level : inRange (s .level) ≡ true
   pub trend : trendOk (s .model) (s .trend) ≡ true
   pub seasonal : seasonalOk (s .period) (s .seasonal) ≡ true
@@ -40,19 +37,13 @@ passed s h =
     let c6 = then-zero _ _ (c5 .1) in
     let c7 = then-zero _ _ (c6 .1) in
     let c9 = then-zero _ _ (c7 .1) in
-    let p3 = both _ _ (unless-zero _ 6 (c7 .0)) in
-    let p2 = both _ _ (p3 .0) in
-    let p1 = both _ _ (p2 .0) in
     let v2 = both _ _ (unless-zero _ 8 (c9 .0)) in
     let v1 = both _ _ (v2 .0) in
     let q = both _ _ (unless-zero _ 9 (c9 .1)) in
     record {
       model = unless-zero _ 4 (c5 .0);
       period = unless-zero _ 5 (c6 .0);
-      alpha = p1 .0;
-      beta = p1 .1;
-      gamma = p2 .1;
-      phi = p3 .1;
+      parameters = c7 .0;
       level = v1 .0;
       trend = v1 .1;
       seasonal = v2 .1;
@@ -63,7 +54,26 @@ passed s h =
 pub passes : (s : State) → Passed s → check s ≡ 0
 unfolding check
 passes s p =
-    rw (p .model, p .period, p .alpha, p .beta, p .gamma, p .phi, p .level, p .trend, p .seasonal, p .index, p .count)
+    rw (p .model, p .period, p .parameters, p .level, p .trend, p .seasonal, p .index, p .count)
+
+-- each parameter by its test
+pub record Allowed (model A B G F : ℕ) : Type 0 where
+  pub alpha : leb A 65536 ≡ true
+  pub beta : gainOk (hasTrend model) B ≡ true
+  pub gamma : gainOk (hasSeason model) G ≡ true
+  pub phi : dampingOk (trendOf model) F ≡ true
+
+pub parameters-ok : (outside : Bool) (model A B G F : ℕ) → parametersCode outside model A B G F ≡ 0 → parametersOk model A B G F ≡ true
+unfolding parametersCode
+parameters-ok outside model A B G F h =
+    both (parametersOk model A B G F) (not (outside && usualGains A B G)) (unless-then _ 6 _ h .0) .0
+
+pub allowed : (s : State) → check s ≡ 0 → Allowed (s .model) (s .alpha) (s .beta) (s .gamma) (s .phi)
+allowed s h =
+    let p3 = both _ _ (parameters-ok (s .outside) (s .model) (s .alpha) (s .beta) (s .gamma) (s .phi) (passed s h .parameters)) in
+    let p2 = both _ _ (p3 .0) in
+    let p1 = both _ _ (p2 .0) in
+    record { alpha = p1 .0; beta = p1 .1; gamma = p2 .1; phi = p3 .1 }
 
 -- each of the 48 cells
 pub cell-passes : (s : State) → check s ≡ 0 → (k : ℕ) → k < 48 → cellOk (s .period) k (getD (s .seasonal) k (pos 0)) ≡ true
@@ -117,12 +127,13 @@ index-lt false m p l h = omega (arith, ltb-true p m h)
 pub bounded : (s : State) → check s ≡ 0 → Bounded s
 bounded s h =
     let p = passed s h in
+    let a = allowed s h in
     let m : s .period ≤ 48 = period-le (hasSeason (s .model)) (s .period) (p .period) in
     record {
-      alpha = leb-true (s .alpha) 65536 (p .alpha);
-      beta = gain-le (hasTrend (s .model)) (s .beta) (p .beta);
-      gamma = gain-le (hasSeason (s .model)) (s .gamma) (p .gamma);
-      phi = damping-le (eqb (trendOf (s .model)) 0) (eqb (trendOf (s .model)) 1) (s .phi) (p .phi);
+      alpha = leb-true (s .alpha) 65536 (a .alpha);
+      beta = gain-le (hasTrend (s .model)) (s .beta) (a .beta);
+      gamma = gain-le (hasSeason (s .model)) (s .gamma) (a .gamma);
+      phi = damping-le (eqb (trendOf (s .model)) 0) (eqb (trendOf (s .model)) 1) (s .phi) (a .phi);
       level = in-range (s .level) (p .level);
       trend = either (hasTrend (s .model)) (s .trend) (p .trend);
       cells = λ k l. either (ltb k (s .period)) (getD (s .seasonal) k (pos 0)) (cell-passes s h k l);
@@ -135,9 +146,10 @@ bounded s h =
 pub no-trend : (s : State) → check s ≡ 0 → hasTrend (s .model) ≡ false → NoTrend s
 no-trend s ok h =
     let p = passed s ok in
+    let a = allowed s ok in
     record {
-      beta = eqb-true (s .beta) 0 (rw h at (p .beta));
-      phi = eqb-true (s .phi) 0 (rw (not-false (eqb (trendOf (s .model)) 0) h) at (p .phi));
+      beta = eqb-true (s .beta) 0 (rw h at (a .beta));
+      phi = eqb-true (s .phi) 0 (rw (not-false (eqb (trendOf (s .model)) 0) h) at (a .phi));
       trend = zero-is (s .trend) (rw h at (p .trend));
     }
 
@@ -147,7 +159,7 @@ no-season s ok h =
     let m : s .period ≡ 0 = eqb-true (s .period) 0 (rw h at (p .period)) in
     record {
       period = m;
-      gamma = eqb-true (s .gamma) 0 (rw h at (p .gamma));
+      gamma = eqb-true (s .gamma) 0 (rw h at (allowed s ok .gamma));
       index = eqb-true (s .index) 0 (rw (eq-eqb (s .period) 0 m) at (p .index));
       cells = λ k l. zero-is (getD (s .seasonal) k (pos 0)) (rw (le-ltb k (s .period) (omega arith)) at (cell-passes s ok k l));
     }

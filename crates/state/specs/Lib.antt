@@ -3,3 +3,4 @@ pub mod Fixed
 pub mod States
 pub mod Valid
 pub mod Rounding
+pub mod Regions

@@ -1,4 +1,4 @@
--- Document 01, "Refusals, in checking order": each number once, with its sentence. A code is the number of a refusal, or 0 for "accepted".
+-- Document 01, "Refusals, in checking order", and those of document 02: each number once, with its sentence. A code is the number of a refusal, or 0 for "accepted".
 use Prim.Native.Nat.{ℕ}
 use mathlib.Core.Bool.{Bool, cond}
 use lib.Dec.{eqb}
@@ -16,7 +16,7 @@ input-too-long = 1
 abbrev pub unknown-command : ℕ
 unknown-command = 2
 
--- The command is out of place: inside a group it isn't the one due; outside one it is a command that only a group holds, or no state is open and it is not 10.
+-- The command is out of place: inside a group it isn't the one due; outside one it is a command that only a group holds, or no state is open and it is neither 10 nor 18.
 abbrev pub out-of-place : ℕ
 out-of-place = 3
 
@@ -32,7 +32,7 @@ bad-model = 5
 abbrev pub bad-period : ℕ
 bad-period = 6
 
--- A parameter is not one the model allows.
+-- A parameter is not one the model allows; or 18, or a state that it opened, has gains inside the usual region.
 abbrev pub bad-parameter : ℕ
 bad-parameter = 7
 
@@ -67,6 +67,10 @@ count-full = 14
 -- A new level, trend or season value would leave its range.
 abbrev pub leaves-range : ℕ
 leaves-range = 15
+
+-- Command 10, or a state that it opened, has gains outside the usual region. (Checked right after 7.)
+abbrev pub unusual-gains : ℕ
+unusual-gains = 16
 
 -- a check: 0 where the test holds, else its rejection
 abbrev pub unless : Bool → ℕ → ℕ

@@ -1,20 +1,21 @@
--- Document 01, "Grains and states": what a state holds, and the checks 5, 6, 7, 9 and 10 of a state handed in directly.
+-- Document 01, "Grains and states", and document 02, W-201: what a state holds, and the checks 5, 6, 7, 16, 9 and 10 of a state handed in directly.
 use Prim.Native.Nat.{ℕ, _-_}
-use mathlib.Core.Bool.{Bool, cond, _&&_}
+use mathlib.Core.Bool.{Bool, false, cond, not, _&&_, _||_}
 use mathlib.Core.List.{List, [], _++_}
 use lib.Dec.{eqb, ltb, leb}
 use lib.IntN.{ℤ, pos}
 use lib.ListN.{getD, length, replicate}
-use Rattle.state.specs.Rejections.{unless, _then_, bad-model, bad-period, bad-parameter, bad-value, bad-position}
+use Rattle.state.specs.Rejections.{unless, _then_, bad-model, bad-period, bad-parameter, unusual-gains, bad-value, bad-position}
 use Rattle.state.specs.Fixed.{inRange, isZero, maxCount}
 use Rattle.integers.specs.Below.{allBelow}
-use Rattle.models.specs.Models.{hasTrend, validModel, periodOk, parametersOk}
+use Rattle.models.specs.Models.{hasTrend, validModel, periodOk, parametersOk, usualGains}
 use Rattle.state.specs.declared.State.{State}
 
--- a state by its numbers: model, m, A, B, G, F, l, b, the first season cells (the others are 0), p, count
-abbrev pub stateOf : ℕ → ℕ → ℕ → ℕ → ℕ → ℕ → ℤ → ℤ → List ℤ → ℕ → ℕ → State
-stateOf model m A B G F l b cells p count =
+-- a state by whether 18 opened it (else 10 did) and its numbers: model, m, A, B, G, F, l, b, the first season cells (the others are 0), p, count
+abbrev pub stateOf : Bool → ℕ → ℕ → ℕ → ℕ → ℕ → ℕ → ℤ → ℤ → List ℤ → ℕ → ℕ → State
+stateOf outside model m A B G F l b cells p count =
     record {
+      outside = outside;
       model = model;
       period = m;
       alpha = A;
@@ -32,6 +33,7 @@ stateOf model m A B G F l b cells p count =
 abbrev pub moved : State → ℤ → ℤ → List ℤ → ℕ → ℕ → State
 moved s l b cells p count =
     record {
+      outside = s .outside;
       model = s .model;
       period = s .period;
       alpha = s .alpha;
@@ -47,7 +49,13 @@ moved s l b cells p count =
 
 -- no state: what stands in the place of one after a rejection. Its model byte is not valid, so every call rejects it
 unfoldable pub noState : State
-noState = stateOf 255 0 0 0 0 0 (pos 0) (pos 0) [] 0 0
+noState = stateOf false 255 0 0 0 0 0 (pos 0) (pos 0) [] 0 0
+
+-- the parameters of a state that 18 opened (outside) or 10: 7 where the model does not allow them, or 18 has gains inside the usual region; 16 where 10 has gains outside it
+unfoldable pub parametersCode : Bool → ℕ → ℕ → ℕ → ℕ → ℕ → ℕ
+parametersCode outside model A B G F =
+    unless (parametersOk model A B G F && not (outside && usualGains A B G)) bad-parameter
+    then unless (outside || usualGains A B G) unusual-gains
 
 -- b: in range, and 0 without trend
 abbrev pub trendOk : ℕ → ℤ → Bool
@@ -77,11 +85,11 @@ valuesOk s = inRange (s .level) && trendOk (s .model) (s .trend) && seasonalOk (
 abbrev pub positionOk : State → Bool
 positionOk s = indexOk (s .period) (s .index) && countOk (s .count)
 
--- the state's first rejection in the order 5, 6, 7, 9, 10, or 0
+-- the state's first rejection in the order 5, 6, 7, 16, 9, 10, or 0
 unfoldable pub check : State → ℕ
 check s =
     unless (validModel (s .model)) bad-model
     then unless (periodOk (s .model) (s .period)) bad-period
-    then unless (parametersOk (s .model) (s .alpha) (s .beta) (s .gamma) (s .phi)) bad-parameter
+    then parametersCode (s .outside) (s .model) (s .alpha) (s .beta) (s .gamma) (s .phi)
     then unless (valuesOk s) bad-value
     then unless (positionOk s) bad-position

@@ -1,4 +1,4 @@
-// The checks 5, 6, 7, 9 and 10 of a state handed in directly.
+// The checks 5, 6, 7, 16, 9 and 10 of a state handed in directly.
 use super::BAD_MODEL;
 use super::BAD_PARAMETER;
 use super::BAD_PERIOD;
@@ -7,6 +7,7 @@ use super::BAD_VALUE;
 use super::MAX_COUNT;
 use super::MAX_VALUE;
 use super::State;
+use super::UNUSUAL_GAINS;
 use super::first;
 use super::unless;
 use models::has_trend;
@@ -14,9 +15,10 @@ use models::model_ok;
 use models::parameters_ok;
 use models::period_ok;
 use models::pick;
+use models::usual_gains;
 ghost use mathlib.Core.Path.{_≡_};
 ghost use Rattle.state.specs.Fixed.{isReading, isSentinel, inRange, isZero};
-ghost use Rattle.state.specs.States.{trendOk, cellOk, seasonalOk, valuesOk, indexOk, countOk, positionOk, check};
+ghost use Rattle.state.specs.States.{parametersCode, trendOk, cellOk, seasonalOk, valuesOk, indexOk, countOk, positionOk, check};
 
 pub fn is_reading(y: i32) -> bool
     ensures { λ r. ⌜ r ≡ isReading y ⌝ }
@@ -41,6 +43,17 @@ fn is_zero(v: i64) -> bool
     ensures { λ r. ⌜ r ≡ isZero v ⌝ }
 {
     v == 0
+}
+
+// The parameters: what the model allows, and the usual region, in which 10 opens a state and 18 does not.
+pub fn parameters_code(outside: bool, model: u8, a: u32, b: u32, g: u32, f: u32) -> u8
+    ensures { λ r. ⌜ r ≡ parametersCode outside model a b g f ⌝ }
+{
+    let usual = usual_gains(a, b, g);
+    let allowed = parameters_ok(model, a, b, g, f) & !(outside & usual);
+    let bad = unless(allowed, BAD_PARAMETER);
+    let unusual = unless(outside | usual, UNUSUAL_GAINS);
+    first(bad, unusual)
 }
 
 pub fn trend_ok(model: u8, b: i64) -> bool
@@ -95,10 +108,10 @@ fn position_ok(s: State) -> bool
 pub fn check(s: State) -> u8
     ensures { λ r. ⌜ r ≡ check s ⌝ }
 {
-    let parameters = parameters_ok(s.model, s.alpha, s.beta, s.gamma, s.phi);
+    let parameters = parameters_code(s.outside, s.model, s.alpha, s.beta, s.gamma, s.phi);
     let mut code = unless(model_ok(s.model), BAD_MODEL);
     code = first(code, unless(period_ok(s.model, s.period), BAD_PERIOD));
-    code = first(code, unless(parameters, BAD_PARAMETER));
+    code = first(code, parameters);
     code = first(code, unless(values_ok(s), BAD_VALUE));
     first(code, unless(position_ok(s), BAD_POSITION))
 }

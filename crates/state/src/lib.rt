@@ -3,10 +3,11 @@ pub mod checks;
 
 ghost use mathlib.Core.Path.{_≡_};
 ghost use Rattle.state.specs.Rejections.{unless, _then_, outcomeCode};
+ghost use Rattle.state.specs.Regions.{RegionLaws};
 ghost use Rattle.state.specs.Rounding.{Rounding};
 ghost use Rattle.state.specs.States.{noState};
 
-// The numbers of document 01's refusals.
+// The numbers of the refusals of documents 01 and 02.
 pub const INPUT_TOO_LONG: u8 = 1;
 
 pub const UNKNOWN_COMMAND: u8 = 2;
@@ -37,6 +38,8 @@ pub const COUNT_FULL: u8 = 14;
 
 pub const LEAVES_RANGE: u8 = 15;
 
+pub const UNUSUAL_GAINS: u8 = 16;
+
 // 2^40: level, trend and season values are at most that, and at least its negative.
 pub const MAX_VALUE: i64 = 0x100_0000_0000;
 
@@ -45,6 +48,8 @@ pub const MAX_COUNT: u64 = 0x1_0000_0000_0000;
 
 // Level, trend and season values are fixed-point numbers with 16 fraction bits (document 01's grains).
 pub struct State {
+    // Whether command 18 opened it, for gains outside the usual region; else 10 did.
+    pub outside: bool,
     pub model: u8,
     // The season length m.
     pub period: u8,
@@ -66,6 +71,7 @@ pub fn no_state() -> State
     ensures { λ r. ⌜ r ≡ noState ⌝ }
 {
     State {
+        outside: false,
         model: 255,
         period: 0,
         alpha: 0,
@@ -115,6 +121,11 @@ pub fn code_of(done: Outcome) -> u8
         Outcome::Rejected(n) => n,
     }
 }
+
+// A promise: what the usual region changes of the checks.
+pub fn region_laws()
+    ensures { λ _. ⌜ RegionLaws ⌝ }
+{}
 
 // A promise: what R is.
 pub fn rounding_laws()

@@ -20,23 +20,23 @@ table-is o = table-bytes _ _ (sym (o .before .before .before .before .command-le
 
 returns-2 : tie.Need-returns-2
 returns-2 c =
-    let o = c .before in
-    sym (decode-stray _ _ _ (o .before .before .before .before .before .before .if1 .left) (table-is o .0) (not-true _ (rw (o .only-in-snapshot .ensures) at (c .if2 .taken))))
+    let o = c .before .before in
+    sym (decode-stray _ _ _ (o .before .before .before .before .before .before .if1 .left) (table-is o .0) (not-true _ (rw (o .only-in-snapshot .ensures, c .before .opens .ensures) at (c .if2 .taken))))
 
 returns-3 : tie.Need-returns-3
 returns-3 c =
-    let o = c .before .before in
+    let o = c .before .before .before in
     let k = table-is o in
-    sym (decode-short _ _ _ (o .before .before .before .before .before .before .if1 .left) (k .0) (not-false _ (rw (o .only-in-snapshot .ensures) at (c .before .if2 .left))) (rw (← (k .1)) (c .if3 .taken)))
+    sym (decode-short _ _ _ (o .before .before .before .before .before .before .if1 .left) (k .0) (not-false _ (rw (o .only-in-snapshot .ensures, c .before .before .opens .ensures) at (c .before .if2 .left))) (rw (← (k .1)) (c .if3 .taken)))
 
 operands-requires : tie.Need-operands-requires
-operands-requires c κs = (search needs, rw (← (table-is (c .before .before) .1)) (omega arith))
+operands-requires c κs = (search needs, rw (← (table-is (c .before .before .before) .1)) (omega arith))
 
 returns-4 : tie.Need-returns-4
 returns-4 c =
-    let o = c .before .before .before in
+    let o = c .before .before .before .before in
     let k = table-is o in
-    rw (k .1, c .operands .ensures) (sym (decode-whole _ _ _ (o .before .before .before .before .before .before .if1 .left) (k .0) (not-false _ (rw (o .only-in-snapshot .ensures) at (c .before .before .if2 .left))) (rw (← (k .1)) (c .before .if3 .left))))
+    rw (k .1, c .operands .ensures) (sym (decode-whole _ _ _ (o .before .before .before .before .before .before .if1 .left) (k .0) (not-false _ (rw (o .only-in-snapshot .ensures, c .before .before .before .opens .ensures) at (c .before .before .if2 .left))) (rw (← (k .1)) (c .before .if3 .left))))
 
 returns-5 : tie.Need-returns-5
 returns-5 c =
@@ -51,6 +51,7 @@ decode-spec =
     (λ c. search needs)
     (λ c κs. search needs)
     (λ c. search needs)
+    (λ c κs. search needs)
     (λ c κs. search needs)
     returns-2
     (λ c. search needs)

@@ -2,7 +2,7 @@
 use borrow.Author.Needs.{needs}
 use Rattle.decoding.specs.declared.Command.the-variants as command-of
 use Rattle.decoding.specs.Decoding.{operands}
-use Rattle.snapshot.specs.CommandTable.{commandSize}
+use Rattle.snapshot.specs.CommandTable.{commandSize, opens}
 use mir.ValLaws.{toZ-ofZ}
 use mir.Syntax.{w32}
 use borrow.Author.Tests.{ne-eqb}
@@ -13,38 +13,38 @@ use Rattle.decoding.proofs.operands.operands.Tie as tie
 
 returns : tie.Need-returns
 unfolding operands
-returns c = rw (c .if1 .taken)
+returns c = rw (← (c .before .opens .ensures), c .if1 .taken)
 
 read-i32-requires : tie.Need-read-i32-requires
 unfolding commandSize
-read-i32-requires c κs = omega (arith, rw (c .if2 .taken) at (c .before .before .before .before .pre .1))
+read-i32-requires c κs = omega (arith, rw (c .if2 .taken) at (c .before .before .before .before .before .pre .1))
 
 returns-2 : tie.Need-returns-2
-unfolding operands
+unfolding operands opens
 returns-2 c = rw (c .before .if2 .taken) (ap command-of.Reading (toZ-ofZ w32 (c .read-i32 .result) (search needs) ∙ c .read-i32 .ensures))
 
 returns-3 : tie.Need-returns-3
-unfolding operands
+unfolding operands opens
 returns-3 c = rw (c .if3 .taken)
 
 read-u16-requires : tie.Need-read-u16-requires
 unfolding commandSize
-read-u16-requires c κs = omega (arith, rw (c .if4 .taken) at (c .before .before .before .before .before .before .pre .1))
+read-u16-requires c κs = omega (arith, rw (c .if4 .taken) at (c .before .before .before .before .before .before .before .pre .1))
 
 returns-4 : tie.Need-returns-4
-unfolding operands
+unfolding operands opens
 returns-4 c = rw (c .before .if4 .taken) (ap command-of.Forecast (c .read-u16 .ensures .0))
 
 read-u16-requires-2 : tie.Need-read-u16-requires-2
 unfolding commandSize
-read-u16-requires-2 c κs = omega (arith, rw (c .if5 .taken) at (c .before .before .before .before .before .before .before .pre .1))
+read-u16-requires-2 c κs = omega (arith, rw (c .if5 .taken) at (c .before .before .before .before .before .before .before .before .pre .1))
 
 read-u32-requires : tie.Need-read-u32-requires
 unfolding commandSize
-read-u32-requires c κs = omega (arith, rw (c .before .if5 .taken) at (c .before .before .before .before .before .before .before .before .pre .1))
+read-u32-requires c κs = omega (arith, rw (c .before .if5 .taken) at (c .before .before .before .before .before .before .before .before .before .pre .1))
 
 returns-5 : tie.Need-returns-5
-unfolding operands
+unfolding operands opens
 returns-5 c =
     let h = c .before .read-u162 .ensures .0 in
     let k = c .read-u32 .ensures in
@@ -52,13 +52,14 @@ returns-5 c =
 
 returns-6 : tie.Need-returns-6
 unfolding operands
-returns-6 c = rw (ne-eqb _ _ (c .before .before .before .before .if1 .left), ne-eqb _ _ (c .before .before .before .if2 .left), ne-eqb _ _ (c .before .before .if3 .left), ne-eqb _ _ (c .before .if4 .left), ne-eqb _ _ (c .if5 .left))
+returns-6 c = rw (← (c .before .before .before .before .before .opens .ensures), c .before .before .before .before .if1 .left, ne-eqb _ _ (c .before .before .before .if2 .left), ne-eqb _ _ (c .before .before .if3 .left), ne-eqb _ _ (c .before .if4 .left), ne-eqb _ _ (c .if5 .left))
 
 pub operands-spec : {M : Type 1} → statement M
 operands-spec =
     tie.close
     (tie.spec
     (λ c. search needs)
+    (λ c κs. search needs)
     returns
     (λ c. search needs)
     read-i32-requires

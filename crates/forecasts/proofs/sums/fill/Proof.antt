@@ -50,7 +50,7 @@ turn-at c =
 loop-holds : tie.Need-loop-holds Inv-loop μ-loop
 unfolding trendAt trendLine ahead forecastList
 loop-holds c =
-    (search needs, back w64 _ (c .struct-told2 .given .1 .1 .1 .1 .1 .1 .1 .0 .1), back w64 _ (c .struct-told2 .given .1 .1 .1 .1 .1 .1 .0 .1), refl, refl, refl)
+    (search needs, back w64 _ (c .struct-told2 .given .1 .1 .1 .1 .1 .1 .1 .1 .0 .1), back w64 _ (c .struct-told2 .given .1 .1 .1 .1 .1 .1 .1 .0 .1), refl, refl, refl)
 
 share-requires : tie.Need-share-requires Inv-loop μ-loop
 share-requires c κs =

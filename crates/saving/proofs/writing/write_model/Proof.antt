@@ -11,14 +11,15 @@ returns c =
     let p = w .before .before .before .before in
     let m = p .before .before .before .before in
     let f = m .before .before .before .before in
-    let b = f .before .before in
-    rw (← (b .model-byte .ensures))
+    let o = f .before in
+    rw (← (o .before .before .model-byte .ensures), ← (o .opener .ensures))
     (rw (p .write-byte3 .ensures, m .write-byte2 .ensures, f .write-byte .ensures) at (w .write-parameters .ensures))
 
 pub write-model-spec : {M : Type 1} → statement M
 write-model-spec =
     tie.close
     (tie.spec
+    (λ c κs. search needs)
     (λ c κs. search needs)
     (λ c κs. search needs)
     (λ c κs. search needs)

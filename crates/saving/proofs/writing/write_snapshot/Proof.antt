@@ -26,11 +26,11 @@ returns c =
     let X = seasonsBytes (s .seasonal) (s .period) in
     let Y = positionBytes (s .index) (s .count) in
     let end = p .write-position .last .0 in
-    let v = rw (back w64 (s .level) (t .1 .1 .1 .1 .1 .1 .0 .1), back w64 (s .trend) (t .1 .1 .1 .1 .1 .1 .1 .0 .1)) at (l .write-level .ensures) in
-    follow (a .d .now) modelAt (modelBytes (s .model) (s .period) (s .alpha) (s .beta) (s .gamma) (s .phi)) (L ++ (X ++ Y)) (m .write-model .last .0) end levelAt (m .write-model .ensures)
+    let v = rw (back w64 (s .level) (t .1 .1 .1 .1 .1 .1 .1 .0 .1), back w64 (s .trend) (t .1 .1 .1 .1 .1 .1 .1 .1 .0 .1)) at (l .write-level .ensures) in
+    follow (a .d .now) modelAt (modelBytes (s .outside) (s .model) (s .period) (s .alpha) (s .beta) (s .gamma) (s .phi)) (L ++ (X ++ Y)) (m .write-model .last .0) end levelAt (m .write-model .ensures)
     (follow (m .write-model .last .0) levelAt L (X ++ Y) (l .write-level .last .0) end (seasonAt 0) v
     (follow (l .write-level .last .0) (seasonAt 0) X Y (x .write-seasons .last .0) end (seasonAt (s .period)) (x .write-seasons .ensures) (p .write-position .ensures) (ap (λ (n : ℕ). seasonAt 0 + n) (length-seasons (s .seasonal) (s .period))))
-    (rw (length-level (s .level) (s .trend)))) (rw (length-model (s .model) (s .period) (s .alpha) (s .beta) (s .gamma) (s .phi)))
+    (rw (length-level (s .level) (s .trend)))) (rw (length-model (s .outside) (s .model) (s .period) (s .alpha) (s .beta) (s .gamma) (s .phi)))
 
 pub write-snapshot-spec : {M : Type 1} → statement M
 write-snapshot-spec =

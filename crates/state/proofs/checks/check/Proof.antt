@@ -9,23 +9,22 @@ unfolding check
 returns c =
     let values = c .before .before .before in
     let parameters = values .before .before .before in
-    let period = parameters .before .before in
+    let period = parameters .before in
     let model = period .before .before .before in
     rw (
       c .first4 .ensures,
-      c .before .unless5 .ensures,
+      c .before .unless4 .ensures,
       c .before .before .position-ok .ensures,
       values .first3 .ensures,
-      values .before .unless4 .ensures,
+      values .before .unless3 .ensures,
       values .before .before .values-ok .ensures,
       parameters .first2 .ensures,
-      parameters .before .unless3 .ensures,
       period .first .ensures,
       period .before .unless2 .ensures,
       period .before .before .period-ok .ensures,
       model .unless .ensures,
       model .before .model-ok .ensures,
-      model .before .before .parameters-ok .ensures,
+      model .before .before .parameters-code .ensures,
     )
     (simp then-assoc)
 
@@ -33,7 +32,6 @@ pub check-spec : {M : Type 1} → statement M
 check-spec =
     tie.close
     (tie.spec
-    (λ c κs. search needs)
     (λ c κs. search needs)
     (λ c κs. search needs)
     (λ c κs. search needs)

@@ -9,7 +9,7 @@ returns c =
     let t = c .before .before .before in
     let s = t .before .before .before .before .args .t1 in
     let u = t .before .before .before .struct-told .given in
-    rw (c .seasonal-ok .ensures, t .trend-ok .ensures, t .before .before .in-range .ensures, back w64 (s .level) (u .1 .1 .1 .1 .1 .1 .0 .1), back w64 (s .trend) (u .1 .1 .1 .1 .1 .1 .1 .0 .1))
+    rw (c .seasonal-ok .ensures, t .trend-ok .ensures, t .before .before .in-range .ensures, back w64 (s .level) (u .1 .1 .1 .1 .1 .1 .1 .0 .1), back w64 (s .trend) (u .1 .1 .1 .1 .1 .1 .1 .1 .0 .1))
 
 pub values-ok-spec : {M : Type 1} → statement M
 values-ok-spec =
