@@ -18,6 +18,7 @@ use Rattle.integers.proofs.Bounds.{within-fits}
 use Rattle.state.specs.States.{check, cellOk}
 use Rattle.state.specs.Regions.{openedBy}
 use Rattle.state.specs.declared.State.{State}
+use Rattle.state.specs.declared.Outcome.the-variants as outcome-of
 use Rattle.integers.proofs.Tests.{allBelow-at}
 use Rattle.models.proofs.ModelLaws.{model-again}
 use Rattle.state.proofs.Tests.{zero-is}
@@ -318,14 +319,12 @@ pub whole : (d : List ℕ) → AreBytes d → openCode d ≡ 0 → openOffset d 
 whole d b ok e = saved-back d b ok ∙ rw e (take-all (length d) d (omega arith))
 
 -- ---- a snapshot that was saved by 10, before there was a region: its first byte changed to 18
-reopened-bytes : (s : State) → set (encoded (openedBy false s)) modelAt (opener true) ≡ encoded (openedBy true s)
-unfolding encoded modelBytes
-reopened-bytes s = refl
+reads-encoded : (s : State) → length (s .seasonal) ≡ 48 → check s ≡ 0 → read (encoded s) ≡ record { outcome = outcome-of.Accepted; state = s }
+unfolding read
+reads-encoded s full ok = let r = rw (append-nil (encoded s)) at (read-back s [] full ok) in rw (r .0, r .2)
 
 pub reopens : Reopens
-unfolding read
+unfolding encoded modelBytes
 reopens s full ok outside =
-    let x = openedBy true s in
-    let passes : check x ≡ 0 = sym (ap (λ (u : Bool). check (openedBy (not u) s)) outside) ∙ region-laws .same s ∙ ok in
-    let r = rw (append-nil (encoded x)) at (read-back x [] full passes) in
-    record { bytes = reopened-bytes s; reads = rw (reopened-bytes s) (rw (r .0, r .2)) }
+    let passes : check (openedBy true s) ≡ 0 = sym (ap (λ (u : Bool). check (openedBy (not u) s)) outside) ∙ region-laws .same s ∙ ok in
+    record { bytes = refl; reads = reads-encoded (openedBy true s) full passes }

@@ -68,7 +68,7 @@ onlyInSnapshot b = innerIn commands b
 abbrev pub opener : Bool → ℕ
 opener outside = cond outside 0x18 0x10
 
--- the two of them
+-- whether a byte is one of the two
 unfoldable pub opens : ℕ → Bool
 opens b = eqb b (opener false) || eqb b (opener true)
 

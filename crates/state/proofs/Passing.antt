@@ -63,17 +63,21 @@ pub record Allowed (model A B G F : ℕ) : Type 0 where
   pub gamma : gainOk (hasSeason model) G ≡ true
   pub phi : dampingOk (trendOf model) F ≡ true
 
-pub parameters-ok : (outside : Bool) (model A B G F : ℕ) → parametersCode outside model A B G F ≡ 0 → parametersOk model A B G F ≡ true
+pub each-allowed : (model A B G F : ℕ) → parametersOk model A B G F ≡ true → Allowed model A B G F
+each-allowed model A B G F h =
+    let p3 = both _ _ h in
+    let p2 = both _ _ (p3 .0) in
+    let p1 = both _ _ (p2 .0) in
+    record { alpha = p1 .0; beta = p1 .1; gamma = p2 .1; phi = p3 .1 }
+
+parameters-ok : (outside : Bool) (model A B G F : ℕ) → parametersCode outside model A B G F ≡ 0 → parametersOk model A B G F ≡ true
 unfolding parametersCode
 parameters-ok outside model A B G F h =
     both (parametersOk model A B G F) (not (outside && usualGains A B G)) (unless-then _ 6 _ h .0) .0
 
 pub allowed : (s : State) → check s ≡ 0 → Allowed (s .model) (s .alpha) (s .beta) (s .gamma) (s .phi)
 allowed s h =
-    let p3 = both _ _ (parameters-ok (s .outside) (s .model) (s .alpha) (s .beta) (s .gamma) (s .phi) (passed s h .parameters)) in
-    let p2 = both _ _ (p3 .0) in
-    let p1 = both _ _ (p2 .0) in
-    record { alpha = p1 .0; beta = p1 .1; gamma = p2 .1; phi = p3 .1 }
+    each-allowed (s .model) (s .alpha) (s .beta) (s .gamma) (s .phi) (parameters-ok (s .outside) (s .model) (s .alpha) (s .beta) (s .gamma) (s .phi) (passed s h .parameters))
 
 -- each of the 48 cells
 pub cell-passes : (s : State) → check s ≡ 0 → (k : ℕ) → k < 48 → cellOk (s .period) k (getD (s .seasonal) k (pos 0)) ≡ true
