@@ -1,5 +1,5 @@
-"""Calls that no stream reaches, for the program `calls`: states handed in directly, batches, all horizons, weights, short
-slices, groups read from a slice. Nothing here is random.
+"""Calls that no stream reaches, for the program `calls`: states handed in directly, batches, all horizons, the bedside
+display's forecasts, weights, short slices, groups read from a slice. Nothing here is random.
 
 The program reads records and writes a line for each. A record is an operation's byte, the state that the call is made on
 (none where a group is read), and the call's operands; low byte first, signed numbers in two's complement, lengths of 32 bits.
@@ -14,6 +14,7 @@ The program reads records and writes a line for each. A record is an operation's
     8 weight       of a horizon
     9 variance     of a horizon, with 32 bits for the residuals' variance
     10 save        the length of the byte cells lent
+    11, 12         6 and 7 on the bedside display (W-206)
 
 A state is a length and as many season cells of 64 bits, the others being 0; 1 where command 18 opened it, or 0, model and m, a byte each; A, B, G, F of 32 bits;
 l and b of 64 bits; p, a byte; count, of 64 bits.
@@ -31,7 +32,7 @@ import forecaster as f
 from forecaster import State
 from streams import C, COUNTS, MODELS, PARAMETERS, V, VALUES, WORD32, cells, edge_gains, nominal, opened
 
-READ, CHECK, STEP, MISSING, BATCH, FORECAST, FORECASTS, WEIGHT, VARIANCE, SAVE = range(1, 11)
+READ, CHECK, STEP, MISSING, BATCH, FORECAST, FORECASTS, WEIGHT, VARIANCE, SAVE, DISPLAY_FORECAST, DISPLAY_FORECASTS = range(1, 13)
 UNTOUCHED = 77
 
 
@@ -118,12 +119,16 @@ class Script:
         self.play(BATCH, operands, [code, taken, *state_numbers(self.last), *filled])
 
     def forecast(self, h):
-        self.play(FORECAST, numbers(4, h), attempted(lambda: [f.forecast(self.state, h)]))
+        """The forecast for one horizon, on the phone and on the bedside display."""
+        for operation, limit in ((FORECAST, f.HORIZON_LIMIT), (DISPLAY_FORECAST, f.DISPLAY_LIMIT)):
+            self.play(operation, numbers(4, h), attempted(lambda: [f.forecast(self.state, h, limit)]))
 
     def forecasts(self, h, room):
-        filled = [UNTOUCHED] * room
-        found = attempted(lambda: f.forecasts(self.state, h, filled) or [])
-        self.play(FORECASTS, numbers(4, room, h), found + filled)
+        """The forecasts for all horizons, on the phone and on the bedside display."""
+        for operation, limit in ((FORECASTS, f.HORIZON_LIMIT), (DISPLAY_FORECASTS, f.DISPLAY_LIMIT)):
+            filled = [UNTOUCHED] * room
+            found = attempted(lambda: f.forecasts(self.state, h, filled, limit) or [])
+            self.play(operation, numbers(4, room, h), found + filled)
 
     def weight(self, h):
         self.play(WEIGHT, numbers(4, h), attempted(lambda: [f.weight(self.state, h)]))
@@ -294,7 +299,7 @@ def horizons(t):
         for m in (2, 48) if model & 4 else (0,):
             t.use(nominal(model, m))
             t.forecasts(512, 512)
-            for h in (1, 2, 3, m + 1):
+            for h in (1, 2, 3, 47, 48, 49):
                 t.forecasts(h, h)
                 t.forecasts(h, h + 2)
                 t.forecasts(h, h - 1)

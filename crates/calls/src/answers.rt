@@ -95,8 +95,10 @@ fn play_cells(operation: u8, s: State) {
     let values = first_values(&mut cells, next_size());
     if operation == 5 {
         play_batch(s, values);
-    } else {
+    } else if operation == 7 {
         print_outcome(forecasts::forecasts(s, next_u32(), values));
+    } else {
+        print_outcome(forecasts::display_forecasts(s, next_u32(), values));
     }
     print_values(values);
 }
@@ -134,6 +136,7 @@ pub fn play(operation: u8) {
         8 => print_weight(weights::variances::weight(next_state(), next_u32())),
         9 => print_variance(weights::variances::variance(next_state(), next_u32(), next_u32())),
         10 => play_save(next_state()),
+        11 => print_answer(forecasts::display_forecast(next_state(), next_u32())),
         _ => play_cells(operation, next_state()),
     }
 }

@@ -7,7 +7,7 @@ use lib.ListN.{getD}
 use Rattle.state.specs.Rejections.{answerCode, answerValue}
 use Rattle.state.specs.declared.State.{State}
 use Rattle.ets.specs.Steps.{step}
-use Rattle.forecasts.specs.Forecasts.{forecast}
+use Rattle.forecasts.specs.Forecasts.{maxHorizon, forecast}
 use Rattle.snapshot.specs.Snapshots.{decoded}
 use Rattle.snapshot.specs.Slices.{inPlaceCode}
 use Rattle.saving.specs.InPlace.{inPlaceStepBytes, inPlaceForecastCode, inPlaceForecast}
@@ -19,7 +19,7 @@ use Rattle.chain.specs.Chains.{ForecastWithin}
 
 pub directly : (s : State) (y : ℤ) (h : ℕ) → ForecastWithin s (Reading y) h (answerCode (forecast (step s y .state) h)) (answerValue (forecast (step s y .state) h))
 unfolding Claim result
-directly s y h o = demand3 s o (Reading y ∷ Forecast h ∷ []) .1 .0
+directly s y h o = demand3 s o (Reading y ∷ Forecast maxHorizon h ∷ []) .1 .0
 
 pub in-place : (d : List ℕ) → ((i : ℕ) → getD d i 0 < 256) → inPlaceCode d ≡ 0 → (y : ℤ) (h : ℕ) (old : ℤ) → ForecastWithin (decoded d) (InPlaceReading (followed []) y) h (inPlaceForecastCode (inPlaceStepBytes d y) h) (inPlaceForecast (inPlaceStepBytes d y) h old)
 unfolding Claim result

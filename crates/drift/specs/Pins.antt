@@ -12,7 +12,7 @@ use Rattle.state.specs.Rejections.{truncated}
 use Rattle.state.specs.States.{stateOf}
 use Rattle.state.specs.declared.State.{State}
 use Rattle.ets.specs.Steps.{afterReading, afterMissing}
-use Rattle.forecasts.specs.Forecasts.{forecastOf}
+use Rattle.forecasts.specs.Forecasts.{maxHorizon, displayHorizon, forecastOf}
 use Rattle.snapshot.specs.Slices.{inPlaceCode}
 use Rattle.traces.specs.Calls.{followed, cut, sliceOf, Call, Reading, Missing, Batch, Forecast, Forecasts, InPlaceReading, InPlaceMissing, InPlaceForecast, result, after}
 use Rattle.drift.specs.Exact.{Parameters, parametersOf, Exact, opened, exactReading, exactForecast, exactAfter, Expected, level-is, forecast-is, expected}
@@ -48,14 +48,16 @@ pub record Refused : Type 0 where
   -- the first of a batch's two levels is 1 from L at n = 1; the second is 1 from it at n = 2
   pub cell : ClaimOf (plain (pos 2)) (standing (pos 0) 0 0 (pos 0)) (Batch (pos 0 ∷ pos 0 ∷ []) (replicate 2 (pos 0)) ∷ []) → ⊥
   -- 1/(2α) = 1 by each call that forecasts: l is 1, L just below 0, and n/2 is 2
-  pub forecast : ClaimOf (plain (pos 1)) (standing (negsuc 0) 4 0 (pos 0)) (Forecast 1 ∷ []) → ⊥
-  pub forecasts : ClaimOf (plain (pos 1)) (standing (negsuc 0) 4 0 (pos 0)) (Forecasts 2 (replicate 2 (pos 0)) ∷ []) → ⊥
+  pub forecast : ClaimOf (plain (pos 1)) (standing (negsuc 0) 4 0 (pos 0)) (Forecast maxHorizon 1 ∷ []) → ⊥
+  pub forecasts : ClaimOf (plain (pos 1)) (standing (negsuc 0) 4 0 (pos 0)) (Forecasts maxHorizon 2 (replicate 2 (pos 0)) ∷ []) → ⊥
+  pub display : ClaimOf (plain (pos 1)) (standing (negsuc 0) 4 0 (pos 0)) (Forecast displayHorizon 1 ∷ []) → ⊥
+  pub display-all : ClaimOf (plain (pos 1)) (standing (negsuc 0) 4 0 (pos 0)) (Forecasts displayHorizon 2 (replicate 2 (pos 0)) ∷ []) → ⊥
   pub in-place : ClaimOf (plain (pos 1)) (standing (negsuc 0) 4 0 (pos 0)) (InPlaceForecast (followed []) 1 (pos 0) ∷ []) → ⊥
   -- the exact recursion goes on from call to call: after a rejected one it stands where it stood
-  pub carried : ClaimOf (plain (pos 1)) (standing (negsuc 0) 4 0 (pos 0)) (Forecast 513 ∷ Forecast 1 ∷ []) → ⊥
+  pub carried : ClaimOf (plain (pos 1)) (standing (negsuc 0) 4 0 (pos 0)) (Forecast maxHorizon 513 ∷ Forecast maxHorizon 1 ∷ []) → ⊥
   -- m + 2m/(γ (1 − α)^m): 2 + 4 × 8 = 34 for m = 2 and α = γ = 1/2; 3 + 6 × 64/27 = 17.2.. for m = 3, α = 1/4, γ = 1
-  pub season-two : ClaimOf (seasonal 2 32768 32768 (pos 34) []) (standing (negsuc 0) 70 0 (pos 0)) (Forecast 1 ∷ []) → ⊥
-  pub season-three : ClaimOf (seasonal 3 16384 65536 (pos 18) []) (standing (pos 0) 36 0 (pos 0)) (Forecast 1 ∷ []) → ⊥
+  pub season-two : ClaimOf (seasonal 2 32768 32768 (pos 34) []) (standing (negsuc 0) 70 0 (pos 0)) (Forecast maxHorizon 1 ∷ []) → ⊥
+  pub season-three : ClaimOf (seasonal 3 16384 65536 (pos 18) []) (standing (pos 0) 36 0 (pos 0)) (Forecast maxHorizon 1 ∷ []) → ⊥
   -- one unit for a step
   pub step : OneUnit (pos 0) (pos (65536 ^ 2 + 1)) → ⊥
   -- half a unit for a missing reading, with a trend and without
@@ -129,29 +131,33 @@ pub record Needed : Type 0 where
   -- the season's limit does not hold of the level alone: level and season creep apart in step
   pub level-alone : (fallenExact .n ≡ 14) × (fallenExact .missed ≡ 0) × (SeasonalBound (parametersOf fallen) 28 (fallen .level) (fallenExact .L) → ⊥)
   -- nor of a forecast after missing readings: an untouched place stays behind a level that creeps
-  pub answer : result gone (Forecast 2) .numbers ≡ negsuc 425970 ∷ []
-  pub judged : expected (parametersOf gone) goneExact (result gone (Forecast 2) .event) ≡ forecast-is (exactForecast (parametersOf gone) goneExact 2) 28 13 ∷ []
+  pub answer : result gone (Forecast maxHorizon 2) .numbers ≡ negsuc 425970 ∷ []
+  pub judged : expected (parametersOf gone) goneExact (result gone (Forecast maxHorizon 2) .event) ≡ forecast-is (exactForecast (parametersOf gone) goneExact 2) 28 13 ∷ []
   pub missing : SeasonalBound (parametersOf gone) 28 (negsuc 425970) (exactForecast (parametersOf gone) goneExact 2) → ⊥
   pub unclaimed : WithinLimit (parametersOf gone) (negsuc 425970) (forecast-is (exactForecast (parametersOf gone) goneExact 2) 28 13)
 
--- ---- a run with every kind of call, from a count of 2^48 − 5: rejected are the reading 1,000,001 (13), the forecast at 513 (11), the call in place with a byte
--- after the snapshot (3) and the one with a byte too few (4), the batch at its third reading (13), and the last reading, for the count is then full (14)
+-- ---- a run with every kind of call, from a count of 2^48 − 5: rejected are the reading 1,000,001 (13), the forecasts at 513 and, on the bedside display, at 49
+-- (11), the call in place with a byte after the snapshot (3) and the one with a byte too few (4), the batch at its third reading (13), and the last reading, for the
+-- count is then full (14)
 abbrev pub opening : State
 opening = stateOf false 4 2 20000 0 30001 0 (pos 0) (pos 0) (pos 65536 ∷ negsuc 65535 ∷ []) 0 281474976710651
 
 unfoldable pub calls : List Call
 calls =
     Reading (pos 5)
-    ∷ Forecasts 3 (replicate 4 (pos 9))
+    ∷ Forecasts maxHorizon 3 (replicate 4 (pos 9))
+    ∷ Forecasts displayHorizon 2 (replicate 2 (pos 9))
+    ∷ Forecast displayHorizon 2
     ∷ Reading (pos 1000001)
-    ∷ Forecast 513
+    ∷ Forecast maxHorizon 513
+    ∷ Forecast displayHorizon 49
     ∷ InPlaceReading (followed []) (pos 3)
     ∷ InPlaceForecast (followed []) 2 (pos 7)
     ∷ InPlaceReading (followed (0x21 ∷ [])) (pos 4)
     ∷ InPlaceReading (cut 65) (pos 4)
     ∷ Batch (pos 1 ∷ negsuc 2147483647 ∷ pos 1000001 ∷ pos 2 ∷ []) (replicate 5 (pos 9))
     ∷ InPlaceMissing (cut 66)
-    ∷ Forecast 1
+    ∷ Forecast maxHorizon 1
     ∷ Reading (pos 1)
     ∷ []
 
@@ -169,6 +175,9 @@ pub record Shown : Type 0 where
         pos 14464 ∷ pos 265540 ∷ pos 14464 ∷ [],
         forecast-is (pos (947912704 * 65536 ^ 2)) 3 0 ∷ forecast-is (pos (17402429440 * 65536 ^ 3)) 4 0 ∷ forecast-is (pos (947912704 * 65536 ^ 4)) 5 0 ∷ [],
       )
+      ∷ (pos 14464 ∷ pos 265540 ∷ [], forecast-is (pos (947912704 * 65536 ^ 2)) 3 0 ∷ forecast-is (pos (17402429440 * 65536 ^ 3)) 4 0 ∷ [])
+      ∷ (pos 265540 ∷ [], forecast-is (pos (17402429440 * 65536 ^ 3)) 4 0 ∷ [])
+      ∷ ([], [])
       ∷ ([], [])
       ∷ ([], [])
       ∷ ([], [])

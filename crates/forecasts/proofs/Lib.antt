@@ -1,2 +1,3 @@
 pub mod ForecastLaws
 pub mod MissingLaws
+pub mod DisplayLaws

@@ -30,9 +30,12 @@ seasonAt s h = cond (hasSeason (s .model)) (getD (s .seasonal) ((s .index + h - 
 unfoldable pub forecastOf : State → ℕ → ℤ
 forecastOf s h = trendLine (s .level) (s .phi) (s .trend) h +ℤ seasonAt s h
 
--- the horizon h is 1 to 512
+-- the horizon h is 1 to 512; on the bedside display 1 to 48 (document 02, W-206)
 abbrev pub maxHorizon : ℕ
 maxHorizon = 512
+
+abbrev pub displayHorizon : ℕ
+displayHorizon = 48
 
 abbrev pub horizonOk : ℕ → ℕ → Bool
 horizonOk limit h = leb 1 h && leb h limit
@@ -77,6 +80,17 @@ forecasts = forecastsTo maxHorizon
 
 abbrev pub forecastCells : State → ℕ → List ℤ → List ℤ
 forecastCells = forecastCellsTo maxHorizon
+
+-- ---- the bedside display's calls, with horizons up to 48
+
+abbrev pub displayForecast : State → ℕ → Answer
+displayForecast = forecastTo displayHorizon
+
+abbrev pub displayForecasts : State → ℕ → ℕ → Outcome
+displayForecasts = forecastsTo displayHorizon
+
+abbrev pub displayForecastCells : State → ℕ → List ℤ → List ℤ
+displayForecastCells = forecastCellsTo displayHorizon
 
 -- ---- the call on numbers: l, F, b and the season's value for the horizon; 7, 9, then 11
 abbrev pub forecastFromCode : ℤ → ℕ → ℤ → ℤ → ℕ → ℕ

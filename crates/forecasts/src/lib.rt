@@ -20,10 +20,12 @@ use sums::trend_line;
 ghost use mathlib.Core.Path.{_≡_};
 ghost use Prim.Native.Nat.{_≤_};
 ghost use lib.ListN.{length};
-ghost use Rattle.forecasts.specs.Forecasts.{horizonOk, forecastCodeTo, forecastTo, forecastsTo, forecastCellsTo, forecastCode, forecast, forecasts, forecastCells, forecastFromCode, forecastFrom};
+ghost use Rattle.forecasts.specs.Forecasts.{horizonOk, forecastCodeTo, forecastTo, forecastsTo, forecastCellsTo, forecastCode, forecast, forecasts, forecastCells, displayForecast, displayForecasts, displayForecastCells, forecastFromCode, forecastFrom};
 
-// The longest horizon.
+// The longest horizon; and that of the bedside display, which has 48 cells (document 02, W-206).
 const MAX_HORIZON: u32 = 512;
+
+const DISPLAY_HORIZON: u32 = 48;
 
 fn horizon_ok(limit: u32, h: u32) -> bool
     ensures { λ r. ⌜ r ≡ horizonOk limit h ⌝ }
@@ -83,6 +85,21 @@ pub fn forecasts(s: State, h: u32, values: &mut [i64]) -> Outcome
     ensures buffer { λ _. ⌜ now (values .exit) ≡ forecastCells s h (now (values .entry)) ⌝ }
 {
     forecasts_to(MAX_HORIZON, s, h, values)
+}
+
+// The bedside display's forecast for one horizon.
+pub fn display_forecast(s: State, h: u32) -> Answer
+    ensures { λ r. ⌜ r ≡ displayForecast s h ⌝ }
+{
+    forecast_to(DISPLAY_HORIZON, s, h)
+}
+
+// The bedside display's forecasts for all horizons to h; a rejected call writes nothing.
+pub fn display_forecasts(s: State, h: u32, values: &mut [i64]) -> Outcome
+    ensures answer { λ r. ⌜ r ≡ displayForecasts s h (length (now (values .entry))) ⌝ }
+    ensures buffer { λ _. ⌜ now (values .exit) ≡ displayForecastCells s h (now (values .entry)) ⌝ }
+{
+    forecasts_to(DISPLAY_HORIZON, s, h, values)
 }
 
 // What rejects a forecast on numbers, or 0.

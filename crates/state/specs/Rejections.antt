@@ -48,7 +48,7 @@ bad-value = 9
 abbrev pub bad-position : ℕ
 bad-position = 10
 
--- The horizon is outside 1 to 512.
+-- The horizon is outside 1 to 512, or on the bedside display outside 1 to 48.
 abbrev pub bad-horizon : ℕ
 bad-horizon = 11
 

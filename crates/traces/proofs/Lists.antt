@@ -11,7 +11,7 @@ use Rattle.state.specs.Fixed.{isSentinel}
 use Rattle.state.specs.declared.State.{State}
 use Rattle.ets.specs.Steps.{stepCode, missingCode, afterReading, afterMissing}
 use Rattle.ets.specs.Batches.{run, preceded, halted, takeCode, afterTake, batchCode, batchRun}
-use Rattle.forecasts.specs.Forecasts.{forecastCode, forecastOf, forecast}
+use Rattle.forecasts.specs.Forecasts.{maxHorizon, forecastCode, forecastOf, forecast}
 use Rattle.forecasts.proofs.ForecastLaws.{list-length}
 use Rattle.ets.proofs.Kept.{reading-kept, missing-kept}
 use Rattle.snapshot.specs.Snapshots.{decoded}
@@ -89,11 +89,11 @@ module _ (s : State) (w : Passing s) where
   same-missing =
       rw (append-nil (encoded s), in-place-is-direct .missing s (w .cells) (w .passes) .holds, in-place-is-direct .missing s (w .cells) (w .passes) .code, missed-code s)
 
-  same-forecast : (h : ℕ) (old : ℤ) → result s (InPlaceForecast (followed []) h old) ≡ result s (Forecast h)
+  same-forecast : (h : ℕ) (old : ℤ) → result s (InPlaceForecast (followed []) h old) ≡ result s (Forecast maxHorizon h)
   unfolding result
   same-forecast h old =
-      rw (append-nil (encoded s), in-place-is-direct .forecast s (w .cells) (w .passes) h .code, in-place-is-direct .forecast s (w .cells) (w .passes) h .number old, forecast-rejection s h)
-      (ap (λ (zs : List ℤ). record { state = s; event = horizon h (eqb (forecastCode s h) 0); numbers = zs }) (by-code (λ b. cond b (cond b (forecastOf s h) old ∷ []) [] ≡ cond b (answerValue (forecast s h) ∷ []) []) (forecastCode s h) (λ z. ap (λ (v : ℤ). v ∷ []) (sym (forecast-answer s h z))) refl))
+      rw (append-nil (encoded s), in-place-is-direct .forecast s (w .cells) (w .passes) h .code, in-place-is-direct .forecast s (w .cells) (w .passes) h .number old, forecast-rejection maxHorizon s h)
+      (ap (λ (zs : List ℤ). record { state = s; event = horizon h (eqb (forecastCode s h) 0); numbers = zs }) (by-code (λ b. cond b (cond b (forecastOf s h) old ∷ []) [] ≡ cond b (answerValue (forecast s h) ∷ []) []) (forecastCode s h) (λ z. ap (λ (v : ℤ). v ∷ []) (sym (forecast-answer maxHorizon s h z))) refl))
 
 pub in-place-laws : InPlaceLaws
 in-place-laws s w = record { reading = same-reading s w; missing = same-missing s w; forecast = same-forecast s w }

@@ -15,7 +15,7 @@ use Rattle.state.proofs.Answers.{outcome-code, answer-code}
 use Rattle.state.proofs.Tests.{then-zero}
 use Rattle.ets.specs.Steps.{stepCode, missingCode, residualOf, afterReading, afterMissing, step, missing}
 use Rattle.ets.specs.Batches.{batchRun, batch, batchLevels}
-use Rattle.forecasts.specs.Forecasts.{forecastCode, forecastOf, forecast, forecastList, forecastsCode, forecastCells, forecastTo, forecastCellsTo, forecastsTo}
+use Rattle.forecasts.specs.Forecasts.{forecastCode, forecastOf, forecastList, forecastCodeTo, forecastsCodeTo, forecastTo, forecastCellsTo, forecastsTo}
 use Rattle.forecasts.proofs.ForecastLaws.{list-length}
 use Rattle.ets.proofs.Kept.{cells-kept, reading-kept, missing-kept}
 use Rattle.snapshot.specs.Snapshots.{decoded}
@@ -67,28 +67,29 @@ direct-batch : (s : State) (ys cells : List ℤ) → Works s (result s (Batch ys
 unfolding result batch
 direct-batch s ys cells = rw (batch-numbers s ys cells) (takes ys (length cells))
 
-pub forecast-answer : (s : State) (h : ℕ) → forecastCode s h ≡ 0 → answerValue (forecast s h) ≡ forecastOf s h
-unfolding forecastTo
-forecast-answer s h z = rw z
+module _ (limit : ℕ) (s : State) (h : ℕ) where
+  pub forecast-answer : forecastCodeTo limit s h ≡ 0 → answerValue (forecastTo limit s h) ≡ forecastOf s h
+  unfolding forecastTo
+  forecast-answer z = rw z
 
-pub forecast-rejection : (s : State) (h : ℕ) → answerCode (forecast s h) ≡ forecastCode s h
-unfolding forecastTo
-forecast-rejection s h = answer-code (forecastCode s h) (forecastOf s h)
+  pub forecast-rejection : answerCode (forecastTo limit s h) ≡ forecastCodeTo limit s h
+  unfolding forecastTo
+  forecast-rejection = answer-code (forecastCodeTo limit s h) (forecastOf s h)
 
-direct-forecast : (s : State) (h : ℕ) → Works s (result s (Forecast h))
-unfolding result
-direct-forecast s h =
-    rw (forecast-rejection s h) (forecasts-one h (forecastCode s h) (answerValue (forecast s h)) (forecast-answer s h))
+  direct-forecast : Works s (result s (Forecast limit h))
+  unfolding result
+  direct-forecast =
+      rw forecast-rejection (forecasts-one h (forecastCodeTo limit s h) (answerValue (forecastTo limit s h)) forecast-answer)
 
-forecasts-numbers : (s : State) (h : ℕ) (cells : List ℤ) → forecastsCode s h (length cells) ≡ 0 → take h (forecastCells s h cells) ≡ forecastList s h
-unfolding forecastCellsTo
-forecasts-numbers s h cells z = rw z (take-at (forecastList s h) (drop h cells) h (list-length s h))
+  forecasts-numbers : (cells : List ℤ) → forecastsCodeTo limit s h (length cells) ≡ 0 → take h (forecastCellsTo limit s h cells) ≡ forecastList s h
+  unfolding forecastCellsTo
+  forecasts-numbers cells z = rw z (take-at (forecastList s h) (drop h cells) h (list-length s h))
 
-direct-forecasts : (s : State) (h : ℕ) (cells : List ℤ) → Works s (result s (Forecasts h cells))
-unfolding result forecastsTo
-direct-forecasts s h cells =
-    rw (outcome-code (forecastsCode s h (length cells)))
-    (forecasts-all h (forecastsCode s h (length cells)) (take h (forecastCells s h cells)) (forecasts-numbers s h cells))
+  direct-forecasts : (cells : List ℤ) → Works s (result s (Forecasts limit h cells))
+  unfolding result forecastsTo
+  direct-forecasts cells =
+      rw (outcome-code (forecastsCodeTo limit s h (length cells)))
+      (forecasts-all h (forecastsCodeTo limit s h (length cells)) (take h (forecastCellsTo limit s h cells)) (forecasts-numbers cells))
 
 -- ---- in place
 pub cells-after : (s : State) (y : ℤ) → length (s .seasonal) ≡ 48 → length (afterReading s y .seasonal) ≡ 48
@@ -140,8 +141,8 @@ pub works : (s : State) → length (s .seasonal) ≡ 48 → check s ≡ 0 → (k
 works s full ok (Reading y) = direct-reading s y
 works s full ok Missing = direct-missing s
 works s full ok (Batch ys cells) = direct-batch s ys cells
-works s full ok (Forecast h) = direct-forecast s h
-works s full ok (Forecasts h cells) = direct-forecasts s h cells
+works s full ok (Forecast limit h) = direct-forecast limit s h
+works s full ok (Forecasts limit h cells) = direct-forecasts limit s h cells
 works s full ok (InPlaceReading slice y) = in-place-reading s full ok slice y
 works s full ok (InPlaceMissing slice) = in-place-missing s full ok slice
 works s full ok (InPlaceForecast slice h old) = in-place-forecast s full ok slice h old

@@ -16,7 +16,7 @@ use Rattle.state.specs.Rejections.{outcomeCode, answerCode, answerValue}
 use Rattle.state.specs.declared.State.{State}
 use Rattle.ets.specs.Steps.{step, missing}
 use Rattle.ets.specs.Batches.{batch, batchLevels}
-use Rattle.forecasts.specs.Forecasts.{forecast, forecasts, forecastCells}
+use Rattle.forecasts.specs.Forecasts.{forecastTo, forecastsTo, forecastCellsTo}
 use Rattle.snapshot.specs.Snapshots.{decoded}
 use Rattle.saving.specs.Encoding.{encoded}
 use Rattle.saving.specs.InPlace.{inPlaceStepCode, inPlaceStepBytes, inPlaceMissingCode, inPlaceMissingBytes, inPlaceForecastCode, inPlaceForecast}
@@ -27,13 +27,14 @@ pub data Slice : Type 0 where
   followed : (trailing : List ℕ) → Slice
   cut : (size : ℕ) → Slice
 
--- A state is handed in directly, or in place: as the snapshot in a slice. `cells` is what the lent cells hold at entry, `old` the lent number of a forecast.
+-- A state is handed in directly, or in place: as the snapshot in a slice. `cells` is what the lent cells hold at entry, `old` the lent number of a forecast, `limit`
+-- the longest horizon that the call takes: 512, or 48 on the bedside display (document 02, W-206).
 pub data Call : Type 0 where
   Reading : (y : ℤ) → Call
   Missing : Call
   Batch : (ys cells : List ℤ) → Call
-  Forecast : (h : ℕ) → Call
-  Forecasts : (h : ℕ) (cells : List ℤ) → Call
+  Forecast : (limit h : ℕ) → Call
+  Forecasts : (limit h : ℕ) (cells : List ℤ) → Call
   InPlaceReading : (slice : Slice) (y : ℤ) → Call
   InPlaceMissing : (slice : Slice) → Call
   InPlaceForecast : (slice : Slice) (h : ℕ) (old : ℤ) → Call
@@ -72,8 +73,9 @@ result s Missing = answered (missing s .state) unobserved (outcomeCode (missing 
 result s (Batch ys cells) =
     let b = batch s ys (length cells) in
     record { state = b .state; event = series ys (b .taken); numbers = take (b .taken) (batchLevels s ys cells) }
-result s (Forecast h) = answered s (horizon h) (answerCode (forecast s h)) (answerValue (forecast s h) ∷ [])
-result s (Forecasts h cells) = answered s (horizons h) (outcomeCode (forecasts s h (length cells))) (take h (forecastCells s h cells))
+result s (Forecast limit h) = let a = forecastTo limit s h in answered s (horizon h) (answerCode a) (answerValue a ∷ [])
+result s (Forecasts limit h cells) =
+    answered s (horizons h) (outcomeCode (forecastsTo limit s h (length cells))) (take h (forecastCellsTo limit s h cells))
 result s (InPlaceReading slice y) =
     let d = sliceOf s slice in answered (stateIn s slice (inPlaceStepBytes d y)) (observed y) (inPlaceStepCode d y) []
 result s (InPlaceMissing slice) =

@@ -7,6 +7,7 @@ use lib.IntN.{ℤ}
 use lib.ListN.{length, take, getD}
 use Rattle.state.specs.States.{check}
 use Rattle.state.specs.declared.State.{State}
+use Rattle.forecasts.specs.Forecasts.{maxHorizon}
 use Rattle.snapshot.specs.Snapshots.{decoded}
 use Rattle.snapshot.specs.Slices.{inPlaceCode}
 use Rattle.saving.specs.Encoding.{encoded}
@@ -38,7 +39,7 @@ CallLaws = (s : State) → Passing s → (k : Call) → CallLaw s k
 pub record InPlaceLaw (s : State) : Type 0 where
   pub reading : (y : ℤ) → result s (InPlaceReading (followed []) y) ≡ result s (Reading y)
   pub missing : result s (InPlaceMissing (followed [])) ≡ result s Missing
-  pub forecast : (h : ℕ) (old : ℤ) → result s (InPlaceForecast (followed []) h old) ≡ result s (Forecast h)
+  pub forecast : (h : ℕ) (old : ℤ) → result s (InPlaceForecast (followed []) h old) ≡ result s (Forecast maxHorizon h)
 
 abbrev pub InPlaceLaws : Type 0
 InPlaceLaws = (s : State) → Passing s → InPlaceLaw s
