@@ -219,8 +219,9 @@ def first_fault(t):
         t.everything()
         t.step(1_000_001)
         t.batch([1_000_001], 0)
-        t.forecast(0)
-        t.forecasts(0, 0)
+        for h in (0, 49):
+            t.forecast(h)
+            t.forecasts(h, 0)
         t.weight(513)
         t.variance(513, 0)
         t.save(0)
