@@ -40,6 +40,9 @@ struct row {
     {name " 0", call, 0, 0, h, 0}, {name " 2", call, 2, 0, h, 0}, {name " 4-24", call, 4, 24, h, 0}, \
     {name " 4-48", call, 4, 48, h, 0}, {name " 6-24", call, 6, 24, h, 0}, {name " 6-48", call, 6, 48, h, 0}
 
+/* with ties to even (W-211): the model byte has bit 6 */
+#define EVEN(name, call, h) {name "-even 2", call, 0x42, 0, h, 0}, {name "-even 6-24", call, 0x46, 24, h, 0}
+
 static const struct row rows[] = {
     EACH("step", STEP, 0),
     EACH("missing", MISSING, 0),
@@ -48,6 +51,11 @@ static const struct row rows[] = {
     EACH("all-512", FORECASTS, 512),
     EACH("weight-512", WEIGHT, 512),
     EACH("batch", BATCH, 0),
+    EVEN("step", STEP, 0),
+    EVEN("forecast-512", FORECAST, 512),
+    EVEN("all-512", FORECASTS, 512),
+    EVEN("weight-512", WEIGHT, 512),
+    EVEN("batch", BATCH, 0),
     {"step-refused-5 0", STEP, 0, 0, 0, 5},
     {"step-refused-13 0", STEP, 0, 0, 0, 13},
     {"step-refused-13 6-48", STEP, 6, 48, 0, 13},

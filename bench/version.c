@@ -13,6 +13,7 @@
 #define ref_forecasts NAME(VERSION, forecasts)
 #define ref_weight NAME(VERSION, weight)
 #define ref_batch NAME(VERSION, batch)
+#define ref_switch_to_even NAME(VERSION, switch_to_even)
 #define ref_group NAME(VERSION, group)
 #include "reference.c"
 

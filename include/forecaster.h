@@ -3,7 +3,9 @@
  * A group is what saving a state writes: the commands 10 or 18 (model byte, m byte, A, B, G, F of 32 bits), 11 (l, b of
  * 64 bits), 12 for places 0 to m - 1 rising (place byte, value of 64 bits) and 13 (p byte, count of 64 bits), operands
  * low byte first, signed ones in two's complement: 46 + 10 * m bytes, FORECASTER_GROUP_LENGTH(m). Level, trend and
- * season values are whole grains; a grain is 1/65536 of a reading unit.
+ * season values are whole grains; a grain is 1/65536 of a reading unit. Bit 6 of the model byte (0x40) is the rounding
+ * rule: what is not a whole number of grains is rounded to the nearest one, and a tie goes up where the bit is 0, to the
+ * even number where it is 1. Groups saved before there was such a rule have 0 there.
  *
  * 10 opens gains inside the usual region, B at most A and A + G at most 65536, and refuses others by 16. 18 opens those,
  * which make the curve swing, and refuses gains inside by 7. A group that was saved with such gains before there was an 18
@@ -54,10 +56,14 @@ enum {
 uint8_t forecaster_step(uint8_t *group, size_t length, int32_t reading, int64_t *residual);
 
 /* A missing reading: a model with trend goes on as its own forecast does, so that the forecast for h after it is the one
- * for h + 1 before it: l becomes l + d and b becomes d, which is F * b / 65536 to the nearest grain, halves up. Without
+ * for h + 1 before it: l becomes l + d and b becomes d, which is F * b / 65536 to the nearest grain. Without
  * trend l and b stay. The season values stay, p moves on and the count rises by one. An accepted one rewrites the group.
  * Refusals: 2 to 10 and 16 of the group, 3 for any byte after it, then 14, 15. */
 uint8_t forecaster_missing(uint8_t *group, size_t length);
+
+/* Switches the group's state to rounding with ties to even: sets bit 6 of its model byte. No value changes, and a second
+ * switch changes nothing. There is no way back. Refusals: 2 to 10 and 16 of the group, 3 for any byte after it. */
+uint8_t forecaster_switch_to_even(uint8_t *group, size_t length);
 
 /* The forecast for horizon h, 1 to 512, in grains, into *value. The group is not written. Refusals: 2 to 10 and 16
  * of the group, 3 for any byte after it, then 11. */

@@ -31,6 +31,9 @@ uint8_t ref_step(uint8_t *group, size_t length, int32_t reading, int64_t *residu
 /* A missing reading. 14. */
 uint8_t ref_missing(uint8_t *group, size_t length);
 
+/* Ties to even from here on (W-211): bit 6 of the model byte is set, and no value changes. */
+uint8_t ref_switch_to_even(uint8_t *group, size_t length);
+
 /* The forecast for one horizon into *value. 11. */
 uint8_t ref_forecast(const uint8_t *group, size_t length, uint32_t horizon, int64_t *value);
 

@@ -29,13 +29,14 @@ static void expect(int holds, const char *text) {
 }
 
 /* ---- the calls, and the refusals that each can give and has given */
-enum call { STEP, MISSING, FORECAST, BATCH, FORECASTS, WEIGHT, CALLS };
-static const char *const names[CALLS] = {"step", "missing", "forecast", "batch", "forecasts", "weight"};
+enum call { STEP, MISSING, SWITCH, FORECAST, BATCH, FORECASTS, WEIGHT, CALLS };
+static const char *const names[CALLS] = {"step", "missing", "switch", "forecast", "batch", "forecasts", "weight"};
 #define BIT(code) (1u << (code))
 #define OF_A_GROUP (BIT(11) - BIT(2) + BIT(16)) /* 2 to 10, and 16 */
 #define OF_A_READING (BIT(13) | BIT(14) | BIT(15))
-static const unsigned refusals[CALLS] = {OF_A_GROUP | OF_A_READING,           OF_A_GROUP | BIT(14) | BIT(15), OF_A_GROUP | BIT(11),
-                                         OF_A_GROUP | BIT(12) | OF_A_READING, OF_A_GROUP | BIT(11) | BIT(12), OF_A_GROUP | BIT(11)};
+static const unsigned refusals[CALLS] = {OF_A_GROUP | OF_A_READING, OF_A_GROUP | BIT(14) | BIT(15),       OF_A_GROUP,
+                                         OF_A_GROUP | BIT(11),      OF_A_GROUP | BIT(12) | OF_A_READING, OF_A_GROUP | BIT(11) | BIT(12),
+                                         OF_A_GROUP | BIT(11)};
 static unsigned long given[CALLS][256];
 
 static int answered(enum call call, uint8_t got, uint8_t code) {
@@ -130,6 +131,14 @@ static int try_missing(uint8_t *bytes, size_t length) {
     return got;
 }
 
+static int try_switch(uint8_t *bytes, size_t length) {
+    uint8_t *at = lend(groups, bytes, length);
+    uint8_t code = ref_switch_to_even(bytes, length);
+    int got = answered(SWITCH, forecaster_switch_to_even(at, length), code);
+    expect_bytes(at, bytes, length);
+    return got;
+}
+
 static int try_forecast(const uint8_t *bytes, size_t length, uint32_t horizon) {
     const uint8_t *at = lend(groups, bytes, length);
     struct cell c = fresh();
@@ -192,6 +201,7 @@ static void all_refuse(const uint8_t *bytes, size_t length, int code) {
     memcpy(copy, bytes, length);
     expect(try_step(copy, length, 5) == code, "a step was not refused by this number");
     expect(try_missing(copy, length) == code, "a missing reading was not refused by this number");
+    expect(try_switch(copy, length) == code, "a switch was not refused by this number");
     expect(try_forecast(copy, length, 1) == code, "a forecast was not refused by this number");
     expect(memcmp(copy, bytes, length) == 0, "a refused call wrote into the group");
     const int32_t readings[] = {5, 6};
@@ -206,8 +216,10 @@ static int trend_of(int model) {
 }
 
 static int seasonal(int model) {
-    return model >= 4;
+    return model >> 2 & 1;
 }
+
+enum { EVEN = 0x40 }; /* ties to even (W-211) */
 
 static struct ref_state plain(int model, int m) {
     struct ref_state st = {.model = model, .m = m, .A = 16384};
@@ -230,7 +242,8 @@ static struct ref_state moved_outside(struct ref_state st) {
     return st;
 }
 
-static const int models[] = {0, 1, 2, 4, 5, 6};
+static const int models[] = {0, 1, 2, 4, 5, 6, EVEN, EVEN + 1, EVEN + 2, EVEN + 4, EVEN + 5, EVEN + 6};
+enum { MODELS = sizeof models / sizeof *models };
 static const int periods[] = {2, 3, 24, 48};
 
 /* ---- document 01's listing and station cases, by the numbers that stand there */
@@ -299,14 +312,33 @@ static void listed_cases(void) {
     expect(forecaster_missing(at, n) == 0, "the missing reading");
     st.l = 2, st.b = 2, st.count = 1;
     expect_state(at, st);
-    calls += 16;
+    what = "W-211: T1's numbers by both rules";
+    const int64_t numbers[] = {32767, 32768, -32768, -32769, 98304, -98304};
+    const int64_t up[] = {0, 1, 0, -1, 2, -1}, even[] = {0, 0, 0, -1, 2, -2};
+    for (int i = 0; i < 6; i++)
+        for (int rule = 0; rule < 2; rule++) {
+            st = plain(0, 0), st.A = 1, st.l = -numbers[i]; /* e is the number, and the level moves by R(e) */
+            n = ref_group(&st, bytes);
+            at = lend(groups, bytes, n);
+            if (rule) {
+                expect(forecaster_switch_to_even(at, n) == 0, "the switch");
+                st.model = EVEN;
+                expect_state(at, st);
+                expect(forecaster_switch_to_even(at, n) == 0, "a second switch");
+                expect_state(at, st);
+            }
+            expect(forecaster_step(at, n, 0, &number) == 0 && number == numbers[i], "e");
+            st.l += rule ? even[i] : up[i], st.count = 1;
+            expect_state(at, st);
+        }
+    calls += 16 + 24;
 }
 
 /* ---- refusals 2, 3 and 4 at every place of every kind of group */
 static void cuts_and_commands(int outside) {
-    for (size_t i = 0; i < sizeof models / sizeof *models; i++)
+    for (int i = 0; i < MODELS; i++)
         for (size_t j = 0; j < sizeof periods / sizeof *periods; j++) {
-            if ((!seasonal(models[i]) && j > 0) || (outside && models[i] == 0))
+            if ((!seasonal(models[i]) && j > 0) || (outside && models[i] % EVEN == 0))
                 continue;
             struct ref_state st = plain(models[i], seasonal(models[i]) ? periods[j] : 0);
             if (outside)
@@ -327,7 +359,7 @@ static void cuts_and_commands(int outside) {
                     uint8_t due = bytes[at];
                     bytes[at] = (uint8_t)first;
                     int low = first & 15, high = first >> 4;
-                    int known = (high == 1 && (low < 4 || low == 8)) || (high == 2 && low < 2) || (high == 3 && low < 2) || first == 0x40;
+                    int known = (high == 1 && (low < 5 || low == 8)) || (high == 2 && low < 2) || (high == 3 && low < 2) || first == 0x40;
                     int other = at == 0 && first == (st.outside ? 0x10 : 0x18); /* the other command that opens a group */
                     int code = !known ? FORECASTER_UNKNOWN_COMMAND : !other ? FORECASTER_OUT_OF_PLACE : st.outside ? FORECASTER_UNUSUAL_GAINS : FORECASTER_BAD_PARAMETER;
                     if (first != due)
@@ -344,7 +376,7 @@ static void cuts_and_commands(int outside) {
 static void region(void) {
     uint8_t bytes[MOST];
     what = "the usual region";
-    for (size_t i = 0; i < sizeof models / sizeof *models; i++)
+    for (int i = 0; i < MODELS; i++)
         for (int edge = 0; edge < 2; edge++)
             for (int over = -1; over <= 1; over++)
                 for (int outside = 0; outside < 2; outside++) {
@@ -396,7 +428,7 @@ static void operands(void) {
         st = plain(0, 0);
         n = ref_group(&st, bytes);
         bytes[1] = (uint8_t)model;
-        if (model > 6 || model == 3)
+        if ((model & ~EVEN) > 6 || (model & ~EVEN) == 3)
             all_refuse(bytes, n, FORECASTER_BAD_MODEL);
     }
     what = "season length";
@@ -417,7 +449,7 @@ static void operands(void) {
         all_refuse(bytes, n, FORECASTER_BAD_PERIOD);
     }
     what = "parameters";
-    for (size_t i = 0; i < sizeof models / sizeof *models; i++) {
+    for (int i = 0; i < MODELS; i++) {
         int m = seasonal(models[i]) ? 2 : 0, trend = trend_of(models[i]);
         st = plain(models[i], m), st.A = 65536, st.outside = m != 0;
         TAKEN();
@@ -582,7 +614,7 @@ static int64_t pick(int64_t low, int64_t high) {
 }
 
 static struct ref_state random_state(void) {
-    int model = models[random64() % 6];
+    int model = models[random64() % MODELS];
     struct ref_state st = plain(model, seasonal(model) ? (int)pick(2, 48) : 0);
     const int64_t range = pick(0, 3) == 0 ? INT64_C(1) << 40 : INT64_C(1) << 30;
     st.A = (uint32_t)pick(0, 65536);
@@ -634,8 +666,12 @@ static void damaged_groups(int rounds) {
             try_forecasts(bytes, n, horizon, pick(0, 9) == 0 ? (size_t)pick(0, 600) : horizon);
             try_weight(bytes, n, (uint32_t)pick(0, 600));
         }
-        switch (pick(0, 1)) {
+        switch (pick(0, 4)) {
         case 0:
+            try_switch(bytes, n);
+            break;
+        case 1:
+        case 2:
             try_step(bytes, n, (int32_t)(pick(0, 9) == 0 ? pick(INT32_MIN, INT32_MAX) : pick(-1000000, 1000000)));
             break;
         default:
@@ -664,6 +700,10 @@ static void long_run(int model, int m, int steps) {
         case 2:
             expect(try_forecast(bytes, n, (uint32_t)pick(1, 512)) == 0, "a forecast was refused");
             break;
+        case 3:
+            if (i > steps / 2)
+                expect(try_switch(bytes, n) == 0 && bytes[1] == (model | EVEN), "a switch was refused, or left another model");
+            break;
         default:
             accepted += try_step(bytes, n, reading) == 0;
         }
@@ -685,7 +725,7 @@ int main(void) {
     operands();
     damaged_groups(200000);
     what = "a long run";
-    for (size_t i = 0; i < sizeof models / sizeof *models; i++)
+    for (int i = 0; i < MODELS; i++)
         if (!seasonal(models[i]))
             long_run(models[i], 0, 200000);
         else

@@ -15,12 +15,14 @@ The program reads records and writes a line for each. A record is an operation's
     9 variance     of a horizon, with 32 bits for the residuals' variance
     10 save        the length of the byte cells lent
     11, 12         6 and 7 on the bedside display (W-206)
+    13 switch      to ties to even (W-211)
+    14 in place    the same on a lent slice: a length and as many bytes
 
 A state is a length and as many season cells of 64 bits, the others being 0; 1 where command 18 opened it, or 0, model and m, a byte each; A, B, G, F of 32 bits;
 l and b of 64 bits; p, a byte; count, of 64 bits.
 
 A line is the operation, the refusal or 0, and what the call gives, each number before a blank; a byte is a number. A step, a
-missing reading, a batch and a read give a state, with all its season cells after the count; a save gives the bytes that the
+missing reading, a batch, a switch and a read give a state, with all its season cells after the count; a save gives the bytes that the
 state needs or its refusal; a read gives, after the state, the refusal once more and the rest of the bytes, which after a
 refusal begins with the refused command. The cells lent stand last. They start as 77, so that what a call leaves untouched is
 seen.
@@ -32,7 +34,7 @@ import forecaster as f
 from forecaster import State
 from streams import C, COUNTS, MODELS, PARAMETERS, V, VALUES, WORD32, cells, edge_gains, nominal, opened
 
-READ, CHECK, STEP, MISSING, BATCH, FORECAST, FORECASTS, WEIGHT, VARIANCE, SAVE, DISPLAY_FORECAST, DISPLAY_FORECASTS = range(1, 13)
+READ, CHECK, STEP, MISSING, BATCH, FORECAST, FORECASTS, WEIGHT, VARIANCE, SAVE, DISPLAY_FORECAST, DISPLAY_FORECASTS, SWITCH, SWITCH_IN_PLACE = range(1, 15)
 UNTOUCHED = 77
 
 
@@ -112,6 +114,28 @@ class Script:
         found = attempted(call)
         self.play(MISSING, b"", found + state_numbers(self.last))
 
+    def switch(self):
+        self.last = self.state
+
+        def call():
+            self.last = f.switch_to_even(self.state)
+            return []
+
+        found = attempted(call)
+        self.play(SWITCH, b"", found + state_numbers(self.last))
+
+    def switch_in_place(self, data):
+        """On a slice that is to hold one group: what it then holds."""
+        code, held = 0, data
+        try:
+            x, used = f.read_group(data)
+            if used < len(data):
+                raise f.Rejected(3)
+            held = f.group_bytes(f.switch_to_even(x))
+        except f.Rejected as r:
+            code = r.code
+        self.record(SWITCH_IN_PLACE, numbers(4, len(data)) + data, [code, *held])
+
     def batch(self, readings, room):
         filled = [UNTOUCHED] * room
         self.last, taken, code = f.batch(self.state, readings, filled)
@@ -156,6 +180,7 @@ class Script:
         self.check()
         self.step(20)
         self.missing()
+        self.switch()
         self.batch([20, f.SENTINEL, 21], 4)
         self.forecast(3)
         self.forecasts(3, 4)
@@ -373,9 +398,46 @@ def outside_region(t):
         t.read(b"\x18" + f.group_bytes(nominal(model))[1:])
 
 
+def rules(t):
+    """W-211: every call by ties to even, on states whose shares are ties; the switch of every model, once and twice, on
+    states that pass and on those that each check refuses; in place on slices with their group, cut, and with a byte after it."""
+    for model in MODELS:
+        m = 2 if model & 4 else 0
+        half = replace(nominal(model), A=32768, G=32768 if m else 0, B=[0, 32768, 16384][model & 3], F=[0, 65536, 32768][model & 3], l=7, b=[0, 3, 5][model & 3], s=cells(1, -3) if m else cells())
+        for x in (nominal(model), half, opened(replace(half, A=16384, G=65536 if m else 0, l=-8))):
+            t.use(replace(x, model=model | f.EVEN))
+            t.everything()
+            t.batch([1, 0, 3, f.SENTINEL, -2, 1, f.SENTINEL, 5], 8)
+            t.forecasts(12, 12)
+            for h in (2, 5, 9, 48):
+                t.weight(h)
+            t.use(x)
+            for turn in range(6):
+                t.step(turn % 4 - 1)
+                t.keep()
+                if turn in (1, 3):
+                    t.switch()
+                    t.keep()
+                t.missing()
+            t.batch([1, 0, f.SENTINEL, -1, 2], 6)
+            saved = f.group_bytes(x)
+            for data in (saved, f.group_bytes(replace(x, model=model | f.EVEN)), saved[:-1], saved[:1], b"", saved + b"\x21", b"\x11" + saved[1:]):
+                t.switch_in_place(data)
+    for model in (3, 67, 71, 72, 127, 191, 192):
+        t.use(replace(nominal(0), model=model))
+        t.check()
+        t.switch()
+    for fault in FAULTS:
+        t.use(replace(nominal(5 | f.EVEN), **fault))
+        t.check()
+        t.switch()
+        if fault.get("m", 0) <= f.CELLS:
+            t.switch_in_place(f.group_bytes(replace(nominal(5), **fault)))
+
+
 def script():
     t = Script()
-    for part in (refused_states, first_fault, steps, batches, horizons, groups, outside_region):
+    for part in (refused_states, first_fault, steps, batches, horizons, groups, outside_region, rules):
         part(t)
     return t
 

@@ -8,7 +8,7 @@ from streams import C, COUNTS, MODELS, UNKNOWN, V, edge_gains, opened
 
 EDGES = {
     0x10: [
-        [0, 1, 2, 3, 4, 5, 6, 7, 8, 255],
+        [0, 1, 2, 3, 4, 5, 6, 7, 8, 64, 67, 70, 72, 255],
         [0, 1, 2, 3, 47, 48, 49, 255],
         *[[0, 1, 2, 32767, 32768, 65535, 65536, 65537, 2**32 - 1]] * 4,
     ],
@@ -18,6 +18,7 @@ EDGES = {
     0x20: [[0, 1, -1, 999_999, 1_000_000, 1_000_001, -1_000_000, -1_000_001, f.SENTINEL, 2**31 - 1]],
     0x30: [[0, 1, 2, 47, 48, 49, 511, 512, 513, 65535]],
     0x31: [[0, 1, 2, 48, 511, 512, 513, 65535], [0, 1, 65536, 2**32 - 1]],
+    0x14: [],
     0x21: [],
     0x40: [],
 }
@@ -50,7 +51,7 @@ def state(rng):
     gains = (parameter(rng), parameter(rng) if trend else 0, parameter(rng) if seasonal else 0)
     A, B, G = gains if rng.random() < 0.8 else rng.choice(GAINS[model])
     found = State(
-        model=model,
+        model=model | rng.choice([0, 0, f.EVEN]),
         m=m,
         A=A,
         B=B,
@@ -67,7 +68,7 @@ def state(rng):
 
 def command(rng, reading_limit):
     """A command outside a group, with operands that pass."""
-    kind = rng.choice([0x20] * 6 + [0x21, 0x30, 0x30, 0x31, 0x40])
+    kind = rng.choice([0x20] * 6 + [0x14, 0x21, 0x30, 0x30, 0x31, 0x40])
     horizon = lambda: rng.choice([1, 2, 3, rng.randint(1, 60), rng.randint(1, 512), 512])
     if kind == 0x20:
         return (kind, signed(rng, reading_limit))

@@ -1,4 +1,4 @@
-"""Document 01's station cases T1 to T12, of the second implementation."""
+"""Document 01's station cases T1 to T12, and T1 by the other rounding rule (W-211), of the second implementation."""
 
 import forecaster as f
 from forecaster import State
@@ -23,6 +23,7 @@ def hold():
     after5 = f.step(seasonal, 5)[0]
     after6 = f.missing(after5)
     yield "T1", [f.R(v) for v in (32767, 32768, -32768, -32769)] == [0, 1, 0, -1]
+    yield "T1, ties to even", [f.ties_to_even(v) for v in (32767, 32768, -32768, -32769, 98304, -98304)] == [0, 0, 0, -1, 2, -2]
     yield "T2", f.step(first, 10)[0].l == 327680
     yield "T3", (after3.l, after3.b, f.forecast(after3, 3)) == (131072, 98304, 425984)
     yield "T4", (after4.l, after4.b, f.forecast(after4, 2)) == (2, 2, 4)

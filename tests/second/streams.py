@@ -13,8 +13,9 @@ V, C = f.VALUE_LIMIT, f.COUNT_LIMIT
 WORD32 = 2**32 - 1
 LOW64, HIGH64 = -(2**63), 2**63 - 1
 
-UNKNOWN = [0x00, 0x01, 0x0F, 0x14, 0x17, 0x19, 0x1F, 0x22, 0x2F, 0x32, 0x3F, 0x41, 0x80, 0xFF]
+UNKNOWN = [0x00, 0x01, 0x0F, 0x15, 0x17, 0x19, 0x1F, 0x22, 0x2F, 0x32, 0x3F, 0x41, 0x80, 0xFF]
 MODELS = [0, 1, 2, 4, 5, 6]
+TO_EVEN = [model | f.EVEN for model in MODELS]
 
 
 def join(*parts):
@@ -98,7 +99,7 @@ def edges():
     for model in range(9):
         for m in (0, 1, 2, 3, 48, 49, 255):
             yield join((0x10, model, m, 5, 0, 0, [0, 65536, 1, 0][model & 3]))
-    for model in (7, 8, 16, 64, 128, 132, 255):
+    for model in (7, 8, 16, 64, 67, 68, 71, 72, 96, 128, 132, 192, 255):
         yield join((0x10, model, 0, 0, 0, 0, 0))
     for model in MODELS:
         x = nominal(model)
@@ -177,6 +178,39 @@ def gaps():
         for x in (nominal(model, 3), replace(nominal(model, 3), F=[0, 65536, 1][model & 3], b=[0, 70_001, 32_768][model & 3])):
             asked = [(0x30, h) for h in (1, 2, 3, 4, 5)]
             yield join(f.group_bytes(x), *asked, *([(0x21,), *asked, (0x40,)] * 4), (0x20, 20), *asked, (0x21,), (0x20, 21), (0x40,))
+
+
+def even():
+    """W-211: T1's numbers by both rules; groups with bit 6, and 14 at each place of a stream, once and twice, by every model,
+    with shares that are ties (gains and damping of a half, odd numbers); 14 where no state is open, and inside a group."""
+    for v in (32767, 32768, -32768, -32769, 98304, -98304):
+        # With A = 1 the level moves by R(e), and e is v.
+        for switch in (), ((0x14,),), ((0x14,), (0x14,)):
+            yield join(f.group_bytes(State(A=1, l=-v)), *switch, (0x20, 0), (0x40,))
+    for model in MODELS:
+        plain = nominal(model, 3)
+        half = replace(plain, A=32768, B=[0, 32768, 16384][model & 3], G=32768 if plain.m else 0, F=[0, 65536, 32768][model & 3], l=7, b=[0, 3, 5][model & 3], s=cells(1, -3, 5) if plain.m else cells())
+        for x in (plain, half, replace(half, l=-8, A=16384, B=[0, 8192, 16384][model & 3], G=49152 if plain.m else 0)):
+            asked = [(0x30, 1), (0x30, 4), (0x30, 9), (0x31, 5, 3), (0x31, 12, 1), (0x40,)]
+            run = [c for k in range(8) for c in ((0x21,) if k % 5 == 3 else (0x20, (k * 7) % 5 - 2), (0x30, 2))]
+            yield join(f.group_bytes(replace(x, model=model | f.EVEN)), *asked, *run, *asked)
+            for at in range(len(run) + 1):
+                yield join(f.group_bytes(x), *run[:at], (0x14,), *run[at:], *asked)
+            yield join(f.group_bytes(x), *asked, (0x14,), *asked, (0x14,), *asked, *run, (0x14,), *asked, f.group_bytes(x), *run, *asked)
+        saved = f.group_bytes(f.play(join(f.group_bytes(half), (0x14,), *readings(5)))[1])
+        assert saved[1] == model | f.EVEN
+        yield join(saved, *QUESTIONS, saved, (0x40,))
+        # A group that is refused leaves the state and its rule.
+        yield join(saved, f.group_bytes(replace(half, model=3 | f.EVEN)))
+        yield join(saved, f.group_bytes(half)[:-1])
+        for bad in dict(m=1), dict(F=2), dict(A=65537), dict(l=V + 1), dict(p=9), dict(count=C + 1):
+            yield f.group_bytes(replace(half, model=model | f.EVEN, **bad))
+    yield join((0x14,))
+    yield join((0x14,), f.group_bytes(State()))
+    group = f.group_bytes(nominal(4))
+    for at in (0, 19, 36, 46, 56):
+        yield group[:at] + b"\x14" + group[at:]
+    yield join(group, (0x14,), (0x14,), b"\x15")
 
 
 def leaving():
@@ -297,6 +331,7 @@ def cut():
         x = nominal(model)
         yield join(f.group_bytes(x), (0x20, 20), (0x21,), (0x30, 2), (0x31, 2, 4), (0x40,), f.group_bytes(x), (0x20, -20))
     yield f.group_bytes(nominal(4, 48))
+    yield join(f.group_bytes(nominal(2 | f.EVEN)), (0x20, 20), (0x14,), (0x40,))
     yield join(f.group_bytes(opened(replace(nominal(5), A=0))), (0x40,), f.group_bytes(nominal(0)))
 
 
@@ -337,7 +372,7 @@ def longest():
     yield whole + whole
 
 
-PLAYED = [document, models, edges, operands, order, gaps, leaving, region, places, saves, damaged, long_runs]
+PLAYED = [document, models, edges, operands, order, gaps, even, leaving, region, places, saves, damaged, long_runs]
 
 
 def records():

@@ -45,8 +45,11 @@ def second(text_stream):
     x, at = f.read_group(text_stream)
     readings, levels, residuals = [], [], []
     while at < len(text_stream):
-        reading = text_stream[at] == 0x20
+        reading, switch = text_stream[at] == 0x20, text_stream[at] == 0x14
         found, at = f.operands(text_stream, at, lambda c: True)
+        if switch:
+            x = f.switch_to_even(x)
+            continue
         if reading:
             x, e = f.step(x, *found)
             residuals.append(e / 65536)
@@ -102,6 +105,11 @@ def straight(folder):
 @case("plot: no trend, no season")
 def plain(folder):
     check_numbers(folder, "model none alpha 0.5\nreading 5\nreading 7\nreading 6\n", 1, 512)
+
+
+@case("plot: a switch to ties to even among the readings")
+def switched(folder):
+    check_numbers(folder, "model damped alpha 0.5 beta 0.25 phi 0.5\nl 7\nb 3\nreading 5\neven\nreading 7\nmissing\neven\nreading 6\n", 1, 60)
 
 
 @case("plot: 15,000 readings, more than one run takes")

@@ -20,6 +20,7 @@ def table(*rows):
 
 
 OPENED = "state opened: model 0, season length 0"
+EVEN = "no line; ties go to the even number from here on"
 SHOWN = [
     (
         "the scale of each line beside raw bytes",
@@ -94,6 +95,32 @@ SHOWN = [
             (1, "model outside straight A 2 B 3", "O 1 0", "state opened: model 1, season length 0"),
             (2, "missing", "M", "missing reading taken"),
             ("", "", "N 1", "1 step counted"),
+        ),
+    ),
+    (
+        "a switch has a row and no line",
+        "model none alpha 0.5\neven\nreading 1\neven\nsave\neven\n",
+        0,
+        table(
+            (1, "model none alpha 0.5", "O 0 0", OPENED),
+            (2, "even", "", EVEN),
+            (3, "reading 1", "E 65536", "residual 1"),
+            (4, "even", "", EVEN),
+            (5, "save", "S 10400000800000000000000000000000000...", "saved, 46 bytes"),
+            (6, "even", "", EVEN),
+            ("", "", "N 1", "1 step counted"),
+        ),
+    ),
+    ("a switch where no state is open", "even\nmissing\n", 1, table((1, "even", "X 3 0", "the command is out of place"), "line 2 was not played")),
+    (
+        "a switch before a refused line",
+        "model even none\neven\nreading 1000001\neven\n",
+        1,
+        table(
+            (1, "model even none", "O 64 0", "state opened: model 64, season length 0, ties to even"),
+            (2, "even", "", EVEN),
+            (3, "reading 1000001", "X 13 47", "the reading is out of range"),
+            "line 4 was not played",
         ),
     ),
     ("gains inside by 18", "model outside none m 2 A 3 G 65533\n", 1, table((1, "model outside none m 2 A 3 G 65533", "X 7 0", PARAMETER))),

@@ -19,7 +19,7 @@ def unlimited(stream):
             x, line, at = f.perform(x, stream, at)
         except f.Rejected as r:
             return lines + [f"X {r.code} {r.offset}"]
-        lines.append(line)
+        lines += [] if line is None else [line]
     return lines + [f"N {x.count if x else 0}"]
 
 
@@ -57,6 +57,8 @@ FILES = [
      f.group_bytes(State(model=2, A=16384, B=8192, F=32768, l=-98304, b=2 * FIXED_POINT)) + steps([5, 7])),
     ("gains outside the usual region", "5\n7\n", ["--outside", "--model", "damped", "--alpha", "0.25", "--beta", "0.5", "--phi", "1/2", "--level=-1.5", "--trend", "2"],
      f.group_bytes(State(model=2, A=16384, B=32768, F=32768, opener=0x18, l=-98304, b=2 * FIXED_POINT)) + steps([5, 7])),
+    ("ties to even", "5\n7\n", ["--even", "--alpha", "0.25"], f.group_bytes(State(model=0x40, A=16384, l=5 * FIXED_POINT)) + steps([5, 7])),
+    ("a switch after the readings", "5\n7\n", ["--then", "even", "--then", "forecast 1"], opened(5) + steps([5, 7]) + b"\x14" + f.encode(0x30, 1)),
     ("a season that is given", "5\n7\n", ["--m", "2", "--gamma", "0.5", "--season=-1,1", "--place", "1"],
      f.group_bytes(State(model=4, m=2, A=32768, G=32768, l=4 * FIXED_POINT, s=(-FIXED_POINT, FIXED_POINT) + (0,) * 46, p=1)) + steps([5, 7])),
     ("a season from the first readings", "5\nNA\n8\n9\n", ["--m", "3", "--place", "2"],

@@ -36,6 +36,11 @@ WRITTEN = [
     ("by 18", "model outside straight alpha 0.25 beta 0.5\nsave\n", S(State(model=1, A=16384, B=32768, F=65536, opener=0x18)) + b"\x40"),
     ("by 18 with a season", "model outside none m 2 A 40000 G 40000\ns 1 7\n", S(State(model=4, m=2, A=40000, G=40000, s=(0, 7) + (0,) * 46, opener=0x18))),
     ("by 18, whatever its gains", "model outside 0x03 alpha 1\n", S(State(model=3, A=65536, opener=0x18))),
+    ("ties to even", "model even damped alpha 1 phi 0.5\nsave\n", S(State(model=0x42, A=65536, F=32768)) + b"\x40"),
+    ("ties to even with a season, by 18", "model outside even none m 2 A 40000 G 40000\n", S(State(model=0x44, m=2, A=40000, G=40000, opener=0x18))),
+    ("the same in the other order", "model even outside none m 2 A 40000 G 40000\n", S(State(model=0x44, m=2, A=40000, G=40000, opener=0x18))),
+    ("ties to even of a model byte", "model even 0x03\nmodel even 64\n", S(State(model=0x43)) + S(State(model=0x40))),
+    ("a switch", "model none\neven\neven\nreading 5\n", S(State()) + b"\x14\x14" + f.encode(0x20, 5)),
     ("a model byte", "model 0x03 m 2 alpha 1\n", S(State(model=3, m=2, A=65536))),
     ("a model byte without season and an m", "model 1 m 2\n", S(State(model=1, m=2, F=65536))),
     ("seasons in any order", "model none m 2\ns 1 7\nplace 1\ns 0 -7\n", S(State(model=4, m=2, s=(-7, 7) + (0,) * 46, p=1))),
@@ -91,7 +96,7 @@ def random_text(rng):
     x = random_streams.state(rng)
     names = ["none", "straight", "damped"]
     season = f" m {x.m}" if x.m else ""
-    outside = "outside " if x.opener == 0x18 else ""
+    outside = ("outside " if x.opener == 0x18 else "") + ("even " if x.model & f.EVEN else "")
     head = [f"model {outside}{names[x.trend]} A {x.A} B {x.B} G {x.G} F {x.F}{season}", f"l {x.l}", f"b {x.b}", f"place {x.p}", f"count {x.count}"]
     rest = head[1:] + [f"s {k} {x.s[k]}" for k in range(x.m)]
     rng.shuffle(rest)
@@ -114,8 +119,8 @@ def decoded(folder):
         stream = random_streams.stream(rng)
         found = f.play(stream)[0]
         rows = list(lines.explained([texts.Piece(stream, (texts.Source(1, "bytes"),), 1)], found))
-        answered = [row for row in rows if isinstance(row, lines.Row) and row.line[0] not in "XN"]
-        same([row.line for row in answered], [line for line in found if line[0] not in "XN"], "the lines")
+        answered = [row for row in rows if isinstance(row, lines.Row) and row.line[:1] not in ("X", "N")]
+        same([row.line for row in answered if row.line], [line for line in found if line[0] not in "XN"], "the lines")
         holds(all(row.number == "1" for row in answered), "a line stands beside no text")
         same(b"".join(commands.items(stream[: commands.decode(stream)[1]])), stream[: commands.decode(stream)[1]], "the items")
 

@@ -24,6 +24,11 @@ class Command(NamedTuple):
     fields: tuple
 
     @property
+    def silent(self):
+        """Outside a group, and without a line."""
+        return self.letter == "" and self.word != ""
+
+    @property
     def layout(self):
         return "<" + "".join(field.code for field in self.fields)
 
@@ -39,6 +44,8 @@ def fields(*pairs):
 MODEL, LEVEL, SEASON, POSITION = 0x10, 0x11, 0x12, 0x13
 OUTSIDE = 0x18  # opens a group as MODEL does, for gains outside the usual region
 OPENERS = (MODEL, OUTSIDE)
+TO_EVEN = 0x14  # switches the state to rounding with ties to even
+EVEN = 0x40  # that rule's bit of the model byte
 READING, MISSING, FORECAST, VARIANCE, SAVE = 0x20, 0x21, 0x30, 0x31, 0x40
 
 MODEL_FIELDS = fields("model:B", "m:B", "A:I", "B:I", "G:I", "F:I")
@@ -51,6 +58,7 @@ COMMANDS = {
         Command(LEVEL, "", "", fields("l:q", "b:q")),
         Command(SEASON, "", "", fields("place:B", "s:q")),
         Command(POSITION, "", "", fields("place:B", "count:Q")),
+        Command(TO_EVEN, "even", "", ()),
         Command(READING, "reading", "E", fields("reading:i")),
         Command(MISSING, "missing", "M", ()),
         Command(FORECAST, "forecast", "F", fields("horizon:H")),

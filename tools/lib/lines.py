@@ -1,15 +1,16 @@
 """The program's lines, beside the text that they answer and in words.
 
-A new line is a row of MEANINGS, a new refusal one of REJECTIONS.
+A new line is a row of MEANINGS, a new command without one of SILENT, a new refusal one of REJECTIONS.
 """
 
 import bisect
+import collections
 import itertools
 from fractions import Fraction
 from typing import NamedTuple
 
 from lib.cli import Failure
-from lib.commands import COMMANDS, decode
+from lib.commands import COMMANDS, EVEN, TO_EVEN, decode
 from lib.numerals import FIXED_POINT, counted, readable
 
 REJECTIONS = {
@@ -41,8 +42,12 @@ def variance_units(high, low, scale):
     return Fraction(int(high) * 2**64 + int(low), 2**32 * scale**2)
 
 
+def opened(model, m):
+    return f"state opened: model {model}, season length {m}{', ties to even' if int(model) & EVEN else ''}"
+
+
 MEANINGS = {
-    "O": lambda scale, model, m: f"state opened: model {model}, season length {m}",
+    "O": lambda scale, model, m: opened(model, m),
     "E": lambda scale, residual: f"residual {units(residual, scale)}",
     "M": lambda scale: "missing reading taken",
     "F": lambda scale, horizon, value: f"forecast {units(value, scale)} for horizon {horizon}",
@@ -51,6 +56,9 @@ MEANINGS = {
     "X": lambda scale, code, offset: REJECTIONS.get(int(code), "a refusal this tool does not know"),
     "N": lambda scale, count: f"{counted(count, 'step')} counted",
 }
+
+
+SILENT = {TO_EVEN: "no line; ties go to the even number from here on"}
 
 
 def meaning(line, scale):
@@ -89,13 +97,14 @@ class Origins:
         """The number of the piece, or None beyond the stream."""
         return bisect.bisect_right(self.starts, offset) - 1 if offset < len(self.stream) else None
 
-    def row(self, offset, line):
+    def row(self, offset, line, silent=""):
+        """The row of the command at the offset; `silent` is what to say of one without a line."""
         at = self.at(offset)
         if at is None:
             return Row("", "", line, meaning(line, 1))
         piece = self.pieces[at]
         text = "; ".join(source.text for source in piece.sources)
-        return Row(str(piece.sources[0].line), text, line, meaning(line, piece.scale))
+        return Row(str(piece.sources[0].line), text, line, silent or meaning(line, piece.scale))
 
     def later(self, offset):
         """The lines of the text whose bytes come after the command at the offset."""
@@ -121,16 +130,26 @@ def not_played(origins, line):
 def explained(pieces, lines):
     """The program's lines as rows beside the text, and what is to be said after them."""
     origins = Origins(pieces)
-    answering = iter(decode(origins.stream)[0])
+    answering = collections.deque(decode(origins.stream)[0])
+
+    def silent(end):
+        """The commands without a line that come next and stand before the offset."""
+        while answering and COMMANDS[answering[0].byte].silent and answering[0].start < end:
+            command = answering.popleft()
+            yield origins.row(command.start, "", SILENT[command.byte])
+
     for line in lines:
         if line[:1] == "X":
             code, offset = map(int, line.split()[1:])
+            yield from silent(offset)
             yield Row("", "", line, meaning(line, 1)) if code == TOO_LONG else origins.row(offset, line)
             yield from not_played(origins, line)
-        elif line[:1] == "N":
+            continue
+        yield from silent(len(origins.stream))
+        if line[:1] == "N":
             yield Row("", "", line, meaning(line, 1))
         else:
-            command = next(answering, None)
+            command = answering.popleft() if answering else None
             if command is None or COMMANDS[command.byte].letter != line[:1]:
                 raise Failure(f"the line {line[:40]} does not belong to this text")
             yield origins.row(command.start, line)

@@ -72,8 +72,13 @@ def lines(program, stream):
 class Played(NamedTuple):
     """Items played in as many runs as they need."""
 
-    answers: list  # the line of each item that was taken
+    answers: list  # the line of each item that was taken and has one
     last: str  # N, X with the offset in all the items' bytes, or "" where the output was cut off
+
+
+def is_silent(item):
+    """Whether an item is a command without a line."""
+    return item[0] in commands.COMMANDS and commands.COMMANDS[item[0]].silent
 
 
 def taken_together(items, at, room):
@@ -101,8 +106,9 @@ def play(program, items, limit=commands.INPUT_LIMIT):
         if found and found[-1].startswith("X "):
             code, where = map(int, found[-1].split()[1:])
             return Played(answers + found[:-1], f"X {code} {offset + where - len(carried)}")
-        answers += found[:many]
-        if len(found) != many + 1 + more:
+        printed = sum(not is_silent(item) for item in items[at : at + many])
+        answers += found[:printed]
+        if len(found) != printed + 1 + more:
             return Played(answers, "")
         if not more:
             return Played(answers, found[-1])

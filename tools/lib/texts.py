@@ -1,11 +1,12 @@
 """The text of tools/stream: each line read, checked and written as the bytes of its command."""
 
+import itertools
 import re
 from typing import NamedTuple
 
 from lib import commands
 from lib.cli import Mistake, shown
-from lib.commands import LEVEL, MODEL, OUTSIDE, POSITION, SEASON, COMMANDS, encode, fitted, in_words
+from lib.commands import EVEN, LEVEL, MODEL, OUTSIDE, POSITION, SEASON, COMMANDS, encode, fitted, in_words
 from lib.numerals import decimal, nearest, whole
 
 TRENDS = {"none": 0, "straight": 1, "damped": 2}
@@ -37,9 +38,12 @@ class Description:
     def __init__(self, source, scale, words):
         self.source, self.scale = source, scale
         self.given = {}  # name, or (s, place), to value, line and the user's words
-        self.opener = OUTSIDE if words[:1] == ["outside"] else MODEL
-        words = words[self.opener == OUTSIDE :]
-        self.byte = self.model_byte(words)
+        kinds = list(itertools.takewhile(lambda word: word in ("outside", "even"), words))
+        words = words[len(kinds) :]
+        if len(set(kinds)) < len(kinds):
+            raise Mistake(f"{kinds[0]} is given a second time")
+        self.opener = OUTSIDE if "outside" in kinds else MODEL
+        self.byte = self.model_byte(words) | (EVEN if "even" in kinds else 0)
         self.parameters(words[1:])
 
     def model_byte(self, words):

@@ -1,9 +1,10 @@
-// The station's C calls on a lent slice that holds one snapshot: document 01, "Commands".
+// The station's C calls on a lent slice that holds one snapshot: document 01, "Commands", and document 02, W-211.
 use saving::in_place::forecast;
 use saving::in_place::missing;
 use saving::in_place::step;
+use saving::in_place::switch_to_even;
 ghost use mathlib.Core.Path.{_≡_};
-ghost use Rattle.saving.specs.InPlace.{inPlaceStepCode, inPlaceStepBytes, inPlaceResidual, inPlaceMissingCode, inPlaceMissingBytes, inPlaceForecastCode, inPlaceForecast};
+ghost use Rattle.saving.specs.InPlace.{inPlaceStepCode, inPlaceStepBytes, inPlaceResidual, inPlaceMissingCode, inPlaceMissingBytes, inPlaceSwitchCode, inPlaceSwitchBytes, inPlaceForecastCode, inPlaceForecast};
 
 #[no_mangle]
 pub extern "C" fn forecaster_step(snapshot: &mut [u8], reading: i32, residual: &mut i64) -> u8
@@ -20,6 +21,14 @@ pub extern "C" fn forecaster_missing(snapshot: &mut [u8]) -> u8
     ensures bytes { λ _. ⌜ now (snapshot .exit) ≡ inPlaceMissingBytes (now (snapshot .entry)) ⌝ }
 {
     missing(snapshot)
+}
+
+#[no_mangle]
+pub extern "C" fn forecaster_switch_to_even(snapshot: &mut [u8]) -> u8
+    ensures code { λ r. ⌜ r ≡ inPlaceSwitchCode (now (snapshot .entry)) ⌝ }
+    ensures bytes { λ _. ⌜ now (snapshot .exit) ≡ inPlaceSwitchBytes (now (snapshot .entry)) ⌝ }
+{
+    switch_to_even(snapshot)
 }
 
 #[no_mangle]

@@ -79,6 +79,21 @@ fn play_missing(s: State) {
     print_state(r.state);
 }
 
+fn play_switch(s: State) {
+    let r = state::switching::switch_to_even(s);
+    let outcome = r.outcome;
+    print_outcome(outcome);
+    print_state(r.state);
+}
+
+fn play_switch_in_place() {
+    let mut space = [0u8; 1024];
+    let bytes = first_bytes(&mut space, next_size());
+    io::read_full(STDIN_FILENO, bytes);
+    print_code(saving::in_place::switch_to_even(bytes));
+    print_bytes(bytes);
+}
+
 fn play_batch(s: State, levels: &mut [i64]) {
     let mut space = [0i32; 256];
     let readings = next_readings(&mut space, next_size());
@@ -137,6 +152,8 @@ pub fn play(operation: u8) {
         9 => print_variance(weights::variances::variance(next_state(), next_u32(), next_u32())),
         10 => play_save(next_state()),
         11 => print_answer(forecasts::display_forecast(next_state(), next_u32())),
+        13 => play_switch(next_state()),
+        14 => play_switch_in_place(),
         _ => play_cells(operation, next_state()),
     }
 }

@@ -1,4 +1,4 @@
--- T1 to T12: each row of the table holds, since both sides compute to the same.
+-- T1 to T12 and W-211: each row of the table holds, since both sides compute to the same.
 use mathlib.Core.Path.{refl}
 use Rattle.state.specs.Fixed.{R, share}
 use Rattle.integers.specs.Below.{allBelow}
@@ -39,4 +39,6 @@ all-rows =
     and refl and refl and refl and refl and refl
     -- T12
     and refl
+    -- W-211
+    and refl and refl and refl and refl and refl and refl and refl
     and tt

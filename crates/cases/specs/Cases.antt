@@ -1,7 +1,7 @@
--- Document 01, "Station cases": T1 to T12 as one table. The function `cases::station_cases` promises it.
+-- Document 01, "Station cases": T1 to T12 as one table, and T1's numbers by the other rounding rule (document 02, W-211). The function `cases::station_cases` promises it.
 use Prim.Native.Nat.{ℕ, _+_, _^_}
 use mathlib.Core.Path.{_≡_}
-use mathlib.Core.Bool.{false}
+use mathlib.Core.Bool.{true, false}
 use mathlib.Core.List.{List, [], _∷_}
 use lib.IntN.{ℤ, pos, negℤ}
 use Rattle.state.specs.Fixed.{R}
@@ -54,10 +54,10 @@ seasonal = stateOf false 4 2 16384 0 32768 0 (pos 0) (pos 0) (pos 65536 ∷ minu
 unfoldable pub table : List Row
 table =
     -- T1: R of 32767, 32768, −32768, −32769 is 0, 1, 0, −1.
-    row 1 (R (pos 32767)) (pos 0)
-    ∷ row 1 (R (pos 32768)) (pos 1)
-    ∷ row 1 (R (minus 32768)) (pos 0)
-    ∷ row 1 (R (minus 32769)) (minus 1)
+    row 1 (R false (pos 32767)) (pos 0)
+    ∷ row 1 (R false (pos 32768)) (pos 1)
+    ∷ row 1 (R false (minus 32768)) (pos 0)
+    ∷ row 1 (R false (minus 32769)) (minus 1)
     -- T2: the listing's step: l = 327680. The listing's lines: E 655360, F 2 327680, V 2 0 21474836480, N 1.
     ∷ row 2 (step listing (pos 10) .residual) (answer-of.Accepted (pos 655360))
     ∷ row 2 (after listing (pos 10)) (stateOf false 0 0 32768 0 0 0 (pos 327680) (pos 0) [] 0 1)
@@ -93,8 +93,16 @@ table =
     ∷ row 11 (forecastCode listing 513) 11
     -- T12: straight, l and b 2^40, A and B 0, y 1,000,000: refusal 15.
     ∷ row 12 (stepCode (stateOf false 1 0 0 0 0 65536 (pos (2 ^ 40)) (pos (2 ^ 40)) [] 0 0) (pos 1000000)) 15
+    -- W-211: with ties to even R of T1's numbers is 0, 0, 0, −1; of 98304 and −98304, 3/2 and −3/2, it is 2 and −2. Model byte 70 is 6 with that rule.
+    ∷ row 211 (R true (pos 32767)) (pos 0)
+    ∷ row 211 (R true (pos 32768)) (pos 0)
+    ∷ row 211 (R true (minus 32768)) (pos 0)
+    ∷ row 211 (R true (minus 32769)) (minus 1)
+    ∷ row 211 (R true (pos 98304)) (pos 2)
+    ∷ row 211 (R true (minus 98304)) (minus 2)
+    ∷ row 211 (check (stateOf false 70 2 0 0 0 1 (pos 0) (pos 0) [] 0 0)) 0
     ∷ []
 
 -- so many comparisons for each case
 abbrev pub compared : List ℕ
-compared = 1 ∷ 1 ∷ 1 ∷ 1 ∷ 2 ∷ 2 ∷ 2 ∷ 2 ∷ 3 ∷ 3 ∷ 4 ∷ 4 ∷ 5 ∷ 5 ∷ 5 ∷ 5 ∷ 6 ∷ 7 ∷ 8 ∷ 9 ∷ 9 ∷ 10 ∷ 10 ∷ 11 ∷ 11 ∷ 11 ∷ 11 ∷ 11 ∷ 12 ∷ []
+compared = 1 ∷ 1 ∷ 1 ∷ 1 ∷ 2 ∷ 2 ∷ 2 ∷ 2 ∷ 3 ∷ 3 ∷ 4 ∷ 4 ∷ 5 ∷ 5 ∷ 5 ∷ 5 ∷ 6 ∷ 7 ∷ 8 ∷ 9 ∷ 9 ∷ 10 ∷ 10 ∷ 11 ∷ 11 ∷ 11 ∷ 11 ∷ 11 ∷ 12 ∷ 211 ∷ 211 ∷ 211 ∷ 211 ∷ 211 ∷ 211 ∷ 211 ∷ []

@@ -1,2 +1,3 @@
 pub mod CommandLaws
 pub mod StreamLaws
+pub mod SwitchLaws

@@ -12,10 +12,13 @@ use lib.IntN.{ℤ}
 use lib.ListN.{length, length-drop, length-replicate, take, drop, getD, replicate}
 use lib.Seq.{sets, sets-eq, take-at, take-length}
 use Rattle.state.specs.Rejections.{unless, outcome, answer, input-too-long, truncated}
+use Rattle.state.specs.States.{check}
+use Rattle.state.specs.Switching.{switchToEven}
 use Rattle.state.specs.declared.State.{State}
 use Rattle.state.specs.declared.Outcome.{Outcome}
 use Rattle.state.specs.declared.Outcome.the-variants as outcome-of
 use Rattle.integers.proofs.Tests.{cond-elim}
+use Rattle.state.proofs.Switches.{checks-kept, switch-accepted}
 use Rattle.ets.specs.Steps.{step, stepCode, residualOf, missing, missingCode}
 use Rattle.forecasts.specs.Forecasts.{forecastTo, forecastCode, forecastOf}
 use Rattle.ets.proofs.Kept.{cells-kept, reading-kept, missing-kept}
@@ -39,7 +42,7 @@ use Rattle.replies.specs.declared.Reply.{Reply}
 use Rattle.replies.specs.declared.Reply.the-variants as reply-of
 use Rattle.lines.specs.declared.Line.the-variants as line-of
 use Rattle.lines.proofs.LineLaws.{savedCount, line-most, long-enough}
-use Rattle.commands.specs.Commands.{start, accepted, rejected, byOutcome, byAnswer, byVariance, finish, restOffset, openSnapshot, takeReading, takeMissing, giveForecast, giveVariance, saveState, act, buffered, perform, performBytes, isLast}
+use Rattle.commands.specs.Commands.{start, accepted, rejected, byOutcome, byAnswer, byVariance, finish, restOffset, openSnapshot, takeReading, takeMissing, switchState, giveForecast, giveVariance, saveState, act, buffered, perform, performBytes, isLast}
 use Rattle.commands.specs.Stream.{inputLimit, snapshotRoom, lineRoom, admit, next, answersIn, answersFrom, answersOf, answers, writeNext, nextBytes, finalReply, lastReply, lineAfter, textOf}
 use Rattle.commands.specs.Promises.{Passes, Sound, Sessions, EndsOnce, Answers, Openings, Offsets}
 use Rattle.commands.specs.declared.Session.{Session}
@@ -68,6 +71,10 @@ reading-passes : (t : State) (y : ℤ) → Passes t → stepCode t y ≡ 0 → P
 unfolding step
 reading-passes t y p z =
     rw z (record { checked = reading-kept t y (p .cells) z; cells = cells-kept t (residualOf t y) ∙ p .cells })
+
+switch-passes : (t : State) → Passes t → Passes (switchToEven t .state)
+switch-passes t p =
+    rw (switch-accepted t (p .checked)) (record { checked = checks-kept t ∙ p .checked; cells = p .cells })
 
 missing-passes : (t : State) → Passes t → missingCode t ≡ 0 → Passes (missing t .state)
 unfolding missing
@@ -122,6 +129,11 @@ module _ (s : List ℕ) (x : Session) (d : List ℕ) where
     missing-goes =
         on-outcome (Goes s x d) (missingCode (x .state)) _ _ (λ z. goes _ to _ h k (λ p. missing-passes (x .state) (same p) z) (omega arith) refl) (λ n. stays n _)
 
+    switch-goes : Goes s x d (switchState x to)
+    unfolding switchState switchToEven lineOf fieldsBytes
+    switch-goes =
+        on-outcome (Goes s x d) (check (x .state)) _ _ (λ z. goes _ to _ h k (λ p. switch-passes (x .state) (same p)) (omega arith) refl) (λ n. stays n _)
+
     forecast-goes : (j : ℕ) → Goes s x d (giveForecast x to j)
     unfolding giveForecast forecastTo lineOf fieldsBytes
     forecast-goes j =
@@ -166,7 +178,8 @@ module _ (s : List ℕ) (x : Session) (d : List ℕ) where
       (λ _. cond-elim P (eqb b 0x21) _ _ (λ _. missing-goes s x d to l k (open-state q))
       (λ _. cond-elim P (eqb b 0x30) _ _ (λ _. forecast-goes s x d to l k (open-state q) _)
       (λ _. cond-elim P (eqb b 0x31) _ _ (λ _. variance-goes s x d to l k (open-state q) _ _)
-      (λ _. save-goes s x d to l k (open-state q))))))
+      (λ _. cond-elim P (eqb b 0x14) _ _ (λ _. switch-goes s x d to l k (open-state q))
+      (λ _. save-goes s x d to l k (open-state q)))))))
 
   pub perform-goes : Goes s x (performBytes s x d) (perform s x (length d))
   unfolding perform performBytes decode

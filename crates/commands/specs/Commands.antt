@@ -6,6 +6,7 @@ use lib.Dec.{eqb}
 use lib.IntN.{ℤ}
 use lib.ListN.{length, drop}
 use Rattle.state.specs.States.{noState}
+use Rattle.state.specs.Switching.{switchToEven}
 use Rattle.state.specs.declared.State.{State}
 use Rattle.state.specs.declared.Outcome.{Outcome}
 use Rattle.state.specs.declared.Outcome.the-variants as outcome-of
@@ -84,6 +85,12 @@ takeMissing x next =
     let t = missing (x .state) in
     byOutcome (t .outcome) (accepted reply-of.Missing next (t .state)) (λ (code : ℕ). rejected code (x .at) x)
 
+-- 14 (document 02, W-211): the answer has no line
+unfoldable pub switchState : Session → ℕ → Performed
+switchState x next =
+    let t = switchToEven (x .state) in
+    byOutcome (t .outcome) (accepted reply-of.Silent next (t .state)) (λ (code : ℕ). rejected code (x .at) x)
+
 -- 30
 unfoldable pub giveForecast : Session → ℕ → ℕ → Performed
 giveForecast x next h =
@@ -109,6 +116,7 @@ act s x room next (command-of.Forecast h) = giveForecast x next h
 act s x room next (command-of.Variance h sigma2) = giveVariance x next h sigma2
 act s x room next command-of.Save = saveState x next room
 act s x room next (command-of.Rejected code) = rejected code (x .at) x
+act s x room next command-of.SwitchToEven = switchState x next
 
 -- what the buffer then holds
 abbrev pub buffered : Session → List ℕ → Command → List ℕ
@@ -120,6 +128,7 @@ buffered x buffer (command-of.Forecast h) = buffer
 buffered x buffer (command-of.Variance h sigma2) = buffer
 buffered x buffer command-of.Save = savedBytes (x .state) buffer
 buffered x buffer (command-of.Rejected code) = buffer
+buffered x buffer command-of.SwitchToEven = buffer
 
 -- the call: the command at the session's offset, finished before the next is looked at
 unfoldable pub perform : List ℕ → Session → ℕ → Performed
@@ -140,3 +149,4 @@ isLast (reply-of.Variance h high low) = false
 isLast (reply-of.Saved n) = false
 isLast (reply-of.Rejected code offset) = true
 isLast (reply-of.Ended count) = true
+isLast reply-of.Silent = false

@@ -1,20 +1,21 @@
 -- The promises about whole streams.
-use Prim.Native.Nat.{ℕ, _≤_, _<_}
+use Prim.Native.Nat.{ℕ, _+_, _≤_, _<_}
 use mathlib.Core.Path.{_≡_}
 use mathlib.Core.Bool.{true, false, cond}
 use mathlib.Core.List.{List, [], _∷_, _++_}
-use lib.ListN.{length, drop}
-use Rattle.state.specs.Rejections.{input-too-long, truncated}
+use lib.ListN.{length, drop, getD}
+use Rattle.state.specs.Rejections.{input-too-long, out-of-place, truncated}
 use Rattle.state.specs.States.{check}
+use Rattle.state.specs.Switching.{switched}
 use Rattle.state.specs.declared.State.{State}
 use Rattle.snapshot.specs.Snapshots.{openCode, openOffset, decoded}
 use Rattle.saving.specs.Encoding.{encoded}
 use Rattle.decoding.specs.Decoding.{decode}
 use Rattle.decoding.specs.declared.Command.the-variants as command-of
-use Rattle.lines.specs.Lines.{writeLine}
+use Rattle.lines.specs.Lines.{lineOf, writeLine}
 use Rattle.replies.specs.declared.Reply.the-variants as reply-of
 use Rattle.lines.specs.declared.Line.the-variants as line-of
-use Rattle.commands.specs.Commands.{start, rejected, perform, isLast}
+use Rattle.commands.specs.Commands.{start, accepted, rejected, perform, isLast}
 use Rattle.commands.specs.Stream.{inputLimit, lineRoom, next, answersFrom, answers, lineAfter, textOf, text}
 use Rattle.commands.specs.declared.Session.{Session}
 use Rattle.commands.specs.declared.Performed.{Performed}
@@ -61,6 +62,14 @@ pub record Offsets : Type 0 where
   pub none : (s : List ℕ) (x : Session) (room : ℕ) → decode s (x .at) (x .active) .command ≡ command-of.Open
       → openCode (drop (x .at) s) ≡ truncated → length (drop (x .at) s) ≤ openOffset (drop (x .at) s)
       → perform s x room .reply ≡ reply-of.Rejected truncated (length s)
+
+-- document 02, W-211: where no state is open 14 is refusal 3; else its answer has no line, and the state that stands is the switched one
+pub record Switches : Type 0 where
+  pub unopened : (s : List ℕ) (x : Session) (room : ℕ) → x .at < length s → getD s (x .at) 0 ≡ 0x14 → x .active ≡ false
+      → perform s x room ≡ rejected out-of-place (x .at) x
+  pub opened : (s : List ℕ) (x : Session) (room : ℕ) → x .at < length s → getD s (x .at) 0 ≡ 0x14 → x .active ≡ true → Sound x
+      → perform s x room ≡ accepted reply-of.Silent (x .at + 1) (switched (x .state))
+  pub line : (saved : List ℕ) → lineOf reply-of.Silent saved ≡ []
 
 -- the listing: model 0, A = 32768, all else 0, then reading 10, forecast 2, variance 2 with σ² 4
 abbrev pub listing : List ℕ

@@ -12,6 +12,7 @@ use performing::give_variance;
 use performing::open_snapshot;
 use performing::reject;
 use performing::save_state;
+use performing::switch_state;
 use performing::take_missing;
 use performing::take_reading;
 use replies::Reply;
@@ -75,6 +76,7 @@ pub fn is_last(reply: Reply) -> bool
             low: _,
         } => false,
         Reply::Saved(_) => false,
+        Reply::Silent => false,
     }
 }
 
@@ -116,6 +118,7 @@ pub fn perform(stream: &[u8], session: Session, buffer: &mut [u8]) -> Performed
         Command::Variance { horizon, sigma2 } => give_variance(session, next, horizon, sigma2),
         Command::Save => save_state(session, next, buffer),
         Command::Rejected(code) => reject(code, session.at, session),
+        Command::SwitchToEven => switch_state(session, next),
     }
 }
 

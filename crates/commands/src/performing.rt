@@ -13,6 +13,7 @@ use snapshot::rest;
 use state::Answer;
 use state::Outcome;
 use state::State;
+use state::switching::switch_to_even;
 use weights::Variance;
 use weights::variances::variance;
 ghost use mathlib.Core.Path.{_≡_};
@@ -20,7 +21,7 @@ ghost use Prim.Native.Nat.{_≤_};
 ghost use lib.ListN.{length};
 ghost use Rattle.snapshot.specs.Answers.{lengthValue};
 ghost use Rattle.saving.specs.Saving.{bytesNeeded, savedBytes};
-ghost use Rattle.commands.specs.Commands.{accepted, rejected, finish, openSnapshot, takeReading, takeMissing, giveForecast, giveVariance, saveState};
+ghost use Rattle.commands.specs.Commands.{accepted, rejected, finish, openSnapshot, takeReading, takeMissing, switchState, giveForecast, giveVariance, saveState};
 
 pub fn reject(code: u8, offset: usize, x: Session) -> Performed
     ensures { λ r. ⌜ r ≡ rejected code offset x ⌝ }
@@ -96,6 +97,18 @@ pub fn take_missing(x: Session, next: usize) -> Performed
     let outcome = found.outcome;
     match outcome {
         Outcome::Accepted => accept(Reply::Missing, next, found.state),
+        Outcome::Rejected(code) => reject(code, x.at, x),
+    }
+}
+
+// Without a line.
+pub fn switch_state(x: Session, next: usize) -> Performed
+    ensures { λ r. ⌜ r ≡ switchState x next ⌝ }
+{
+    let found = switch_to_even(x.state);
+    let outcome = found.outcome;
+    match outcome {
+        Outcome::Accepted => accept(Reply::Silent, next, found.state),
         Outcome::Rejected(code) => reject(code, x.at, x),
     }
 }

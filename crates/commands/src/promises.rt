@@ -1,5 +1,5 @@
 // What holds of every stream and every session.
-ghost use Rattle.commands.specs.Promises.{Sessions, Answers, Openings, Offsets, Listing};
+ghost use Rattle.commands.specs.Promises.{Sessions, Answers, Openings, Offsets, Switches, Listing};
 
 pub fn sessions()
     ensures { λ _. ⌜ Sessions ⌝ }
@@ -15,6 +15,11 @@ pub fn openings()
 
 pub fn offsets()
     ensures { λ _. ⌜ Offsets ⌝ }
+{}
+
+// What command 14 does.
+pub fn switches()
+    ensures { λ _. ⌜ Switches ⌝ }
 {}
 
 // The document's listing, byte for byte.

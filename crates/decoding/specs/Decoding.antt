@@ -30,7 +30,8 @@ operands s at =
     (cond (eqb b 0x21) command-of.Missing
     (cond (eqb b 0x30) (command-of.Forecast (unsignedAt s (at + 1) 2))
     (cond (eqb b 0x31) (command-of.Variance (unsignedAt s (at + 1) 2) (unsignedAt s (at + 3) 4))
-    command-of.Save))))
+    (cond (eqb b 0x14) command-of.SwitchToEven
+    command-of.Save)))))
 
 abbrev pub decoded : Command → ℕ → Decoded
 decoded command next = record { command = command; next = next }

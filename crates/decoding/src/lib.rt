@@ -22,6 +22,7 @@ pub enum Command {
     Save,
     // By 2, 3 or 4.
     Rejected(u8),
+    SwitchToEven,
 }
 
 // A command, and the offset after it.

@@ -63,5 +63,8 @@ pub fn operands(s: &[u8], at: usize) -> Command
             sigma2: read_u32(s, at + 3),
         };
     }
+    if b == 0x14 {
+        return Command::SwitchToEven;
+    }
     Command::Save
 }

@@ -10,6 +10,7 @@ use borrow.Author.Tests.{eq-eqb}
 use Rattle.state.specs.Fixed.{R, share}
 use Rattle.integers.specs.Below.{allBelow}
 use Rattle.state.specs.States.{check, parametersCode}
+use Rattle.state.specs.Switching.{switchToEven}
 use Rattle.ets.specs.Steps.{dampedTrend, seasonDue, newLevel, newTrend, newSeason, newSeasonal, nextIndex, stepCode, advanced, missingCode, step, missing, residual}
 use Rattle.ets.specs.Batches.{takeCode, afterTake, run, batchRun, batch, batchLevels}
 use Rattle.forecasts.specs.Forecasts.{trendAt, trendLine, seasonAt, forecastOf, forecastList, forecastTo, forecastCellsTo, forecastsTo, forecastCodeTo, forecastsCodeTo}
@@ -18,12 +19,12 @@ use Rattle.snapshot.specs.CommandTable.{commandSize, isCommand}
 use Rattle.snapshot.specs.Snapshots.{dueCode, modelCode, levelCode, seasonCode, positionCode, scanSeasons, scan, cellsAt, decoded}
 use Rattle.snapshot.specs.Slices.{inPlaceCode}
 use Rattle.saving.specs.Encoding.{toBytes, modelBytes, levelBytes, seasonBytes, seasonsBytes, positionBytes, encoded}
-use Rattle.saving.specs.InPlace.{inPlaceStepCode, inPlaceStepBytes, inPlaceMissingCode, inPlaceMissingBytes, inPlaceForecastCode, inPlaceForecast}
+use Rattle.saving.specs.InPlace.{inPlaceStepCode, inPlaceStepBytes, inPlaceMissingCode, inPlaceMissingBytes, inPlaceSwitchBytes, inPlaceForecastCode, inPlaceForecast}
 use Rattle.traces.specs.Calls.{result, after}
 use Rattle.drift.specs.Exact.{Parameters, exactDamped, exactResidual, adjusted, exactSeason, exactTake, exactBatch, exactTrendAt, exactLine, exactForecast, exactAfter, Expected, expectedLevels, expectedForecasts, expected}
 use Rattle.drift.specs.Limits.{AtMost, WithinLimit, EachWithin, more, Claim, Opening}
 use Rattle.drift.specs.Components.{StepError}
-use Rattle.drift.specs.Pins.{seasonal, damped, standing, ClaimOf, Refused, beside, creep, Attained, compared, falling, gaps, creeping, Needed, opening, calls, Shown, Pins}
+use Rattle.drift.specs.Pins.{seasonal, damped, standing, ClaimOf, Refused, beside, creep, creepAcross, Attained, compared, falling, gaps, creeping, Needed, opening, calls, Shown, Pins}
 use Rattle.drift.proofs.Drift.{demand3}
 
 -- the first comparison of an answer
@@ -36,7 +37,7 @@ index-refused k l h =
     le→leb 2 0 (rw (getD-replicate 48 k (pos 0) (pos 0) l, eq-eqb k k refl) at (h .seasons k (omega arith)))
 
 refused : Refused
-unfolding Claim AtMost WithinLimit result check parametersCode allBelow R share dampedTrend seasonDue residual newLevel newTrend newSeason newSeasonal nextIndex stepCode takeCode afterTake run batchRun batch batchLevels trendAt trendLine seasonAt forecastOf forecastCodeTo forecastTo forecastList forecastsCodeTo forecastsTo forecastCellsTo fromBytes toBytes commandSize isCommand dueCode modelCode levelCode seasonCode scanSeasons positionCode scan cellsAt decoded modelBytes levelBytes seasonBytes seasonsBytes positionBytes encoded inPlaceCode inPlaceForecastCode inPlaceForecast exactDamped exactResidual adjusted exactSeason exactTake exactTrendAt exactLine exactForecast expectedLevels expectedForecasts exactAfter expected
+unfolding Claim AtMost WithinLimit result check parametersCode allBelow R share dampedTrend seasonDue residual newLevel newTrend newSeason newSeasonal nextIndex stepCode takeCode afterTake run batchRun batch batchLevels trendAt trendLine seasonAt forecastOf forecastCodeTo forecastTo forecastList forecastsCodeTo forecastsTo forecastCellsTo fromBytes toBytes commandSize isCommand dueCode modelCode levelCode seasonCode scanSeasons positionCode scan cellsAt decoded modelBytes levelBytes seasonBytes seasonsBytes positionBytes encoded inPlaceCode inPlaceForecastCode inPlaceForecast inPlaceSwitchBytes switchToEven exactDamped exactResidual adjusted exactSeason exactTake exactTrendAt exactLine exactForecast expectedLevels expectedForecasts exactAfter expected
 refused =
     record {
       level-one = λ h. le→leb _ _ (h .level);
@@ -48,6 +49,8 @@ refused =
       display = λ h. le→leb _ _ (first (h .0) refl .0 refl);
       display-all = λ h. le→leb _ _ (first (h .0) refl .0 refl);
       in-place = λ h. le→leb _ _ (first (h .0) refl .0 refl);
+      switched = λ h. le→leb _ _ (first (h .1 .0) refl .0 refl);
+      switched-in-place = λ h. le→leb _ _ (first (h .1 .0) refl .0 refl);
       carried = λ h. le→leb _ _ (first (h .1 .0) refl .0 refl);
       season-two = λ h. le→leb _ _ (first (h .0) refl .1 refl);
       season-three = λ h. le→leb _ _ (first (h .0) refl .1 refl);
@@ -60,8 +63,8 @@ refused =
     }
 
 attained : Attained
-unfolding creep after beside result check parametersCode allBelow R share dampedTrend seasonDue residual newLevel newTrend newSeason newSeasonal nextIndex advanced stepCode step trendAt trendLine seasonAt forecastOf exactDamped exactResidual adjusted exactSeason exactTrendAt exactLine exactForecast exactAfter
-attained = record { half = refl; plain-sixteen = refl; step = leb→le _ _ tt; missing = refl; damped-one = refl; damped-eight = leb→le _ _ tt }
+unfolding creep creepAcross after beside result check parametersCode allBelow R share dampedTrend seasonDue residual newLevel newTrend newSeason newSeasonal nextIndex advanced stepCode step switchToEven trendAt trendLine seasonAt forecastOf exactDamped exactResidual adjusted exactSeason exactTrendAt exactLine exactForecast exactAfter
+attained = record { half = refl; plain-sixteen = refl; even-sixteen = refl; across = refl; step = leb→le _ _ tt; missing = refl; damped-one = refl; damped-eight = leb→le _ _ tt }
 
 needed : Needed
 unfolding AtMost WithinLimit falling gaps after beside result check parametersCode allBelow R share dampedTrend seasonDue residual newLevel newTrend newSeason newSeasonal nextIndex stepCode step advanced missingCode missing trendAt trendLine seasonAt forecastOf forecastCodeTo forecastTo exactDamped exactResidual adjusted exactSeason exactTrendAt exactLine exactForecast exactAfter expected
@@ -87,8 +90,8 @@ unfolding AtMost R share dampedTrend seasonDue residual newLevel newTrend newSea
 stepped = record { level = leb→le _ _ tt; trend = leb→le _ _ tt; seasons = λ k l. absurd (omega arith) }
 
 shown : Shown
-unfolding compared calls result check parametersCode allBelow R share dampedTrend seasonDue residual newLevel newTrend newSeason newSeasonal nextIndex stepCode advanced missingCode step missing takeCode afterTake run batchRun batch batchLevels trendAt trendLine seasonAt forecastOf forecastCodeTo forecastTo forecastList forecastsCodeTo forecastsTo forecastCellsTo fromBytes toBytes commandSize isCommand dueCode modelCode levelCode seasonCode scanSeasons positionCode scan cellsAt decoded modelBytes levelBytes seasonBytes seasonsBytes positionBytes encoded inPlaceCode inPlaceStepCode inPlaceStepBytes inPlaceMissingCode inPlaceMissingBytes inPlaceForecastCode inPlaceForecast exactDamped exactResidual adjusted exactSeason exactTake exactBatch exactTrendAt exactLine exactForecast exactAfter expectedLevels expectedForecasts expected
-shown = record { step = stepped; opens = opens; opens-outside = opens-outside; holds = demand3 opening opens calls; short = refl; compares = refl }
+unfolding compared calls after result switchToEven inPlaceSwitchBytes check parametersCode allBelow R share dampedTrend seasonDue residual newLevel newTrend newSeason newSeasonal nextIndex stepCode advanced missingCode step missing takeCode afterTake run batchRun batch batchLevels trendAt trendLine seasonAt forecastOf forecastCodeTo forecastTo forecastList forecastsCodeTo forecastsTo forecastCellsTo fromBytes toBytes commandSize isCommand dueCode modelCode levelCode seasonCode scanSeasons positionCode scan cellsAt decoded modelBytes levelBytes seasonBytes seasonsBytes positionBytes encoded inPlaceCode inPlaceStepCode inPlaceStepBytes inPlaceMissingCode inPlaceMissingBytes inPlaceForecastCode inPlaceForecast exactDamped exactResidual adjusted exactSeason exactTake exactBatch exactTrendAt exactLine exactForecast exactAfter expectedLevels expectedForecasts expected
+shown = record { step = stepped; opens = opens; opens-outside = opens-outside; holds = demand3 opening opens calls; rule-before = refl; rule-after = refl; short = refl; compares = refl }
 
 pub pins : Pins
 pins = record { refused = refused; attained = attained; needed = needed; shown = shown }

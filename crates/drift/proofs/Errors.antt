@@ -1,6 +1,7 @@
 -- The error of a rounded number against its exact numerator, and what one reading does to it.
 use mathlib.Core.Path.{_≡_, sym, ap}
 use Prim.Native.Nat.{ℕ, _+_, _*_, _≤_}
+use mathlib.Core.Bool.{Bool}
 use native.Mathlib.Nat.{mul-le-mul-left}
 use native.Mathlib.Omega.{arith}
 use lib.IntN.{ℤ, pos, _+ℤ_, _-ℤ_, _*ℤ_}
@@ -63,14 +64,14 @@ abbrev pub Both : ℕ → D → D → Type 0
 Both e u v = Above e u v × Above e (negD u) (negD v)
 
 -- the new error is the average of the corrected number's and the other's, and half a unit
-module _ (Kn A B : ℕ) (hAB : 65536 * A + 65536 * B ≡ 4294967296) (e E l L s S l′ L′ : ℤ) (hl : Same (parts l′) (addD (parts l) (parts (share A e)))) (hL : L′ ≡ pos 4294967296 *ℤ L +ℤ pos (65536 * A) *ℤ E) (hE : Same (addD (err Kn (parts e) (parts E)) (addD (err Kn (parts l) (parts L)) (err Kn (parts s) (parts S)))) zeroD) where
+module _ (even : Bool) (Kn A B : ℕ) (hAB : 65536 * A + 65536 * B ≡ 4294967296) (e E l L s S l′ L′ : ℤ) (hl : Same (parts l′) (addD (parts l) (parts (share even A e)))) (hL : L′ ≡ pos 4294967296 *ℤ L +ℤ pos (65536 * A) *ℤ E) (hE : Same (addD (err Kn (parts e) (parts E)) (addD (err Kn (parts l) (parts L)) (err Kn (parts s) (parts S)))) zeroD) where
   hL′ : Same (parts L′) (addD (scaleD 4294967296 (parts L)) (scaleD (65536 * A) (parts E)))
   hL′ = omega (arith, ap up hL, ap dn hL, sum (pos 4294967296 *ℤ L) (pos (65536 * A) *ℤ E), scaled 4294967296 L, scaled (65536 * A) E)
 
   pub corrected-both : Both (4294967296 * Kn) (err (4294967296 * Kn) (parts l′) (parts L′)) (mix (65536 * B) (err Kn (parts l) (parts L)) (65536 * A) (negD (err Kn (parts s) (parts S))))
   corrected-both = (
-    corrected Kn (65536 * A) (65536 * B) (parts e) (parts E) (parts l) (parts L) (parts s) (parts S) (parts l′) (parts L′) (parts (share A e)) hAB hl hL′ hE
-        (omega (arith, share-above A e, scaled A e)),
-    corrected Kn (65536 * A) (65536 * B) (negD (parts e)) (negD (parts E)) (negD (parts l)) (negD (parts L)) (negD (parts s)) (negD (parts S)) (negD (parts l′)) (negD (parts L′)) (negD (parts (share A e))) hAB (sym hl) (sym hL′) (sym hE)
-        (omega (arith, share-below A e, scaled A e)),
+    corrected Kn (65536 * A) (65536 * B) (parts e) (parts E) (parts l) (parts L) (parts s) (parts S) (parts l′) (parts L′) (parts (share even A e)) hAB hl hL′ hE
+        (omega (arith, share-above even A e, scaled A e)),
+    corrected Kn (65536 * A) (65536 * B) (negD (parts e)) (negD (parts E)) (negD (parts l)) (negD (parts L)) (negD (parts s)) (negD (parts S)) (negD (parts l′)) (negD (parts L′)) (negD (parts (share even A e))) hAB (sym hl) (sym hL′) (sym hE)
+        (omega (arith, share-below even A e, scaled A e)),
   )

@@ -4,6 +4,7 @@ use mathlib.Core.Bool.{Bool, true, false, cond, not}
 use Prim.Native.Nat.{ℕ, zero, suc, _+_, _*_, _-_, _/_, _%_, _^_, _≤_, _<_}
 use native.Mathlib.Nat.{le-refl, pow-succ'}
 use native.Mathlib.Omega.{arith}
+use lib.Bits.{bitAnd}
 use lib.Dec.{eqb}
 use lib.IntN.{ℤ, pos, negsuc, natAbs, _+ℤ_, _-ℤ_, _*ℤ_, zero-*ℤ}
 use lib.ListN.{getD}
@@ -12,7 +13,7 @@ use Rattle.integers.specs.Bounds.{Within}
 use Rattle.integers.proofs.Difference.{diff, ints, known, sum, scaled}
 use Rattle.integers.proofs.Bounds.{within-zero, within-add, within-mul, within-parts}
 use Rattle.state.specs.Fixed.{share}
-use Rattle.models.specs.Models.{trendOf, hasSeason, validModel, dampingOk}
+use Rattle.models.specs.Models.{trendOf, hasSeason, validModel, dampingOk, tiesToEven}
 use Rattle.state.specs.States.{check}
 use Rattle.state.specs.declared.State.{State}
 use Rattle.integers.proofs.Tests.{both}
@@ -34,12 +35,12 @@ trend-next f p e d n = rw (known e, known d, known n) (simp diff (omega arith))
 trend-limit : (k p : ℕ) → p * 65536 + 65536 * (k * p) ≡ suc k * (65536 * p)
 trend-limit k p = omega arith
 
-trend-error : (F : ℕ) (b : ℤ) → F ≤ 65536 → (j : ℕ) → Within (j * 65536 ^ j) (pos 2 *ℤ (pos (65536 ^ j) *ℤ trendAt F b j -ℤ exactTrendAt F b j))
+trend-error : (even : Bool) (F : ℕ) (b : ℤ) → F ≤ 65536 → (j : ℕ) → Within (j * 65536 ^ j) (pos 2 *ℤ (pos (65536 ^ j) *ℤ trendAt even F b j -ℤ exactTrendAt F b j))
 unfolding trendAt exactTrendAt
-trend-error F b h zero = rw (trend-zero b) (within-zero (0 * 1))
-trend-error F b h (suc j) =
-    rw (pow-succ' 65536 j, trend-next F (65536 ^ j) (share F (trendAt F b j)) (trendAt F b j) (exactTrendAt F b j))
-    (rw (trend-limit j (65536 ^ j)) at (within-add (within-mul (le-refl (65536 ^ j)) (share-error F (trendAt F b j))) (within-mul h (trend-error F b h j))))
+trend-error even F b h zero = rw (trend-zero b) (within-zero (0 * 1))
+trend-error even F b h (suc j) =
+    rw (pow-succ' 65536 j, trend-next F (65536 ^ j) (share even F (trendAt even F b j)) (trendAt even F b j) (exactTrendAt F b j))
+    (rw (trend-limit j (65536 ^ j)) at (within-add (within-mul (le-refl (65536 ^ j)) (share-error even F (trendAt even F b j))) (within-mul h (trend-error even F b h j))))
 
 line-zero : (l : ℤ) → pos 4 *ℤ (pos 1 *ℤ l -ℤ l) ≡ pos 0
 line-zero l = rw (known l) (simp diff (omega arith))
@@ -50,42 +51,42 @@ line-next p s t d n = rw (known s, known t, known d, known n) (simp diff (omega 
 line-limit : (k p : ℕ) → 65536 * (k * suc k * p) + 2 * (suc k * (65536 * p)) ≡ suc k * suc (suc k) * (65536 * p)
 line-limit k p = omega arith
 
-line-error : (s : State) → s .phi ≤ 65536 → (h : ℕ) → Within (h * suc h * 65536 ^ h) (pos 4 *ℤ (pos (65536 ^ h) *ℤ trendLine (s .level) (s .phi) (s .trend) h -ℤ exactLine (parametersOf s) (opened s) h))
+line-error : (s : State) → s .phi ≤ 65536 → (h : ℕ) → Within (h * suc h * 65536 ^ h) (pos 4 *ℤ (pos (65536 ^ h) *ℤ trendLine (tiesToEven (s .model)) (s .level) (s .phi) (s .trend) h -ℤ exactLine (parametersOf s) (opened s) h))
 unfolding trendLine exactLine
 line-error s f zero = rw (line-zero (s .level)) (within-zero (0 * 1 * 1))
 line-error s f (suc h) =
-    rw (pow-succ' 65536 h, line-next (65536 ^ h) (trendLine (s .level) (s .phi) (s .trend) h) (exactLine (parametersOf s) (opened s) h) (trendAt (s .phi) (s .trend) (suc h)) (exactTrendAt (s .phi) (s .trend) (suc h)))
-    (rw (line-limit h (65536 ^ h)) at (within-add (within-mul (le-refl 65536) (line-error s f h)) (within-mul (le-refl 2) (rw (pow-succ' 65536 h) at (trend-error (s .phi) (s .trend) f (suc h))))))
+    rw (pow-succ' 65536 h, line-next (65536 ^ h) (trendLine (tiesToEven (s .model)) (s .level) (s .phi) (s .trend) h) (exactLine (parametersOf s) (opened s) h) (trendAt (tiesToEven (s .model)) (s .phi) (s .trend) (suc h)) (exactTrendAt (s .phi) (s .trend) (suc h)))
+    (rw (line-limit h (65536 ^ h)) at (within-add (within-mul (le-refl 65536) (line-error s f h)) (within-mul (le-refl 2) (rw (pow-succ' 65536 h) at (trend-error (tiesToEven (s .model)) (s .phi) (s .trend) f (suc h))))))
 
 -- ---- without trend, and with a straight one
 none-added : (z d : ℤ) → d ≡ pos 0 → z +ℤ d ≡ z
 none-added z d h = omega (ints, sum z d)
 
-pub flat-line : (s : State) → s .phi ≡ 0 → (h : ℕ) → trendLine (s .level) (s .phi) (s .trend) h ≡ s .level
+pub flat-line : (s : State) → s .phi ≡ 0 → (h : ℕ) → trendLine (tiesToEven (s .model)) (s .level) (s .phi) (s .trend) h ≡ s .level
 unfolding trendLine trendAt
 flat-line s e zero = refl
 flat-line s e (suc h) =
-    none-added (trendLine (s .level) (s .phi) (s .trend) h) (trendAt (s .phi) (s .trend) (suc h)) (ap (λ (F : ℕ). trendAt F (s .trend) (suc h)) e ∙ share-none (trendAt 0 (s .trend) h))
+    none-added (trendLine (tiesToEven (s .model)) (s .level) (s .phi) (s .trend) h) (trendAt (tiesToEven (s .model)) (s .phi) (s .trend) (suc h)) (ap (λ (F : ℕ). trendAt (tiesToEven (s .model)) F (s .trend) (suc h)) e ∙ share-none (tiesToEven (s .model)) (trendAt (tiesToEven (s .model)) 0 (s .trend) h))
     ∙ flat-line s e h
 
-straight-trend : (b : ℤ) (j : ℕ) → trendAt 65536 b j ≡ b
+straight-trend : (even : Bool) (b : ℤ) (j : ℕ) → trendAt even 65536 b j ≡ b
 unfolding trendAt
-straight-trend b zero = refl
-straight-trend b (suc j) = share-one (trendAt 65536 b j) ∙ straight-trend b j
+straight-trend even b zero = refl
+straight-trend even b (suc j) = share-one even (trendAt even 65536 b j) ∙ straight-trend even b j
 
 one-more : (h : ℕ) (l b : ℤ) → l +ℤ pos h *ℤ b +ℤ b ≡ l +ℤ pos (suc h) *ℤ b
 one-more h l b = rw (known l, known b) (simp diff (omega arith))
 
-straight-line : (s : State) → s .phi ≡ 65536 → (h : ℕ) → trendLine (s .level) (s .phi) (s .trend) h ≡ s .level +ℤ pos h *ℤ s .trend
+straight-line : (s : State) → s .phi ≡ 65536 → (h : ℕ) → trendLine (tiesToEven (s .model)) (s .level) (s .phi) (s .trend) h ≡ s .level +ℤ pos h *ℤ s .trend
 unfolding trendLine
 straight-line s e zero = sym (none-added (s .level) (pos 0 *ℤ s .trend) (zero-*ℤ (s .trend)))
 straight-line s e (suc h) =
-    rw (straight-line s e h, ap (λ (F : ℕ). trendAt F (s .trend) (suc h)) e, straight-trend (s .trend) (suc h))
+    rw (straight-line s e h, ap (λ (F : ℕ). trendAt (tiesToEven (s .model)) F (s .trend) (suc h)) e, straight-trend (tiesToEven (s .model)) (s .trend) (suc h))
     (one-more h (s .level) (s .trend))
 
 -- ---- a factor that rounds nothing
-abbrev Whole : ℕ → Type 0
-Whole F = (z : ℤ) → pos 65536 *ℤ share F z ≡ pos F *ℤ z
+abbrev Whole : Bool → ℕ → Type 0
+Whole even F = (z : ℤ) → pos 65536 *ℤ share even F z ≡ pos F *ℤ z
 
 once : (x : ℤ) → pos 1 *ℤ x ≡ x
 once x = rw (known x) (simp diff (omega arith))
@@ -96,32 +97,32 @@ times-assoc p x = rw (known x) (simp diff (omega arith))
 times-swap : (p f : ℕ) (x : ℤ) → pos p *ℤ (pos f *ℤ x) ≡ pos f *ℤ (pos p *ℤ x)
 times-swap p f x = rw (known x) (simp diff (omega arith))
 
-whole-trend : (F : ℕ) (b : ℤ) → Whole F → (j : ℕ) → pos (65536 ^ j) *ℤ trendAt F b j ≡ exactTrendAt F b j
+whole-trend : (even : Bool) (F : ℕ) (b : ℤ) → Whole even F → (j : ℕ) → pos (65536 ^ j) *ℤ trendAt even F b j ≡ exactTrendAt F b j
 unfolding trendAt exactTrendAt
-whole-trend F b w zero = once b
-whole-trend F b w (suc j) =
-    rw (pow-succ' 65536 j, times-assoc (65536 ^ j) (share F (trendAt F b j)), w (trendAt F b j), times-swap (65536 ^ j) F (trendAt F b j), whole-trend F b w j)
+whole-trend even F b w zero = once b
+whole-trend even F b w (suc j) =
+    rw (pow-succ' 65536 j, times-assoc (65536 ^ j) (share even F (trendAt even F b j)), w (trendAt even F b j), times-swap (65536 ^ j) F (trendAt even F b j), whole-trend even F b w j)
 
 line-whole : (p : ℕ) (s d : ℤ) → pos (65536 * p) *ℤ (s +ℤ d) ≡ pos 65536 *ℤ (pos p *ℤ s) +ℤ pos (65536 * p) *ℤ d
 line-whole p s d = rw (known s, known d) (simp diff (omega arith))
 
-whole-line : (s : State) → Whole (s .phi) → (h : ℕ) → pos (65536 ^ h) *ℤ trendLine (s .level) (s .phi) (s .trend) h ≡ exactLine (parametersOf s) (opened s) h
+whole-line : (s : State) → Whole (tiesToEven (s .model)) (s .phi) → (h : ℕ) → pos (65536 ^ h) *ℤ trendLine (tiesToEven (s .model)) (s .level) (s .phi) (s .trend) h ≡ exactLine (parametersOf s) (opened s) h
 unfolding trendLine exactLine
 whole-line s w zero = once (s .level)
 whole-line s w (suc h) =
-    rw (pow-succ' 65536 h, line-whole (65536 ^ h) (trendLine (s .level) (s .phi) (s .trend) h) (trendAt (s .phi) (s .trend) (suc h)), whole-line s w h)
-    (ap (λ (z : ℤ). pos 65536 *ℤ exactLine (parametersOf s) (opened s) h +ℤ z) (ap (λ (p : ℕ). pos p *ℤ trendAt (s .phi) (s .trend) (suc h)) (sym (pow-succ' 65536 h)) ∙ whole-trend (s .phi) (s .trend) w (suc h)))
+    rw (pow-succ' 65536 h, line-whole (65536 ^ h) (trendLine (tiesToEven (s .model)) (s .level) (s .phi) (s .trend) h) (trendAt (tiesToEven (s .model)) (s .phi) (s .trend) (suc h)), whole-line s w h)
+    (ap (λ (z : ℤ). pos 65536 *ℤ exactLine (parametersOf s) (opened s) h +ℤ z) (ap (λ (p : ℕ). pos p *ℤ trendAt (tiesToEven (s .model)) (s .phi) (s .trend) (suc h)) (sym (pow-succ' 65536 h)) ∙ whole-trend (tiesToEven (s .model)) (s .phi) (s .trend) w (suc h)))
 
 -- ---- which factor a model without damping has
 no-third : (b : ℕ) → validModel b ≡ true → trendOf b ≡ 3 → ⊥
 no-third b h e =
-    let t = both (eqb (b / 8) 0) (not (eqb (b % 4) 3)) (model-law b (valid-small b h) ∙ h) in
+    let t = both (eqb (bitAnd b 0xb8) 0) (not (eqb (b % 4) 3)) (model-law b (valid-small b h) ∙ h) in
     eqb-false (b % 4) 3 (not-true (eqb (b % 4) 3) (t .1)) e
 
-undamped-phi : (t F : ℕ) → t < 4 → (t ≡ 3 → ⊥) → (t ≡ 2 → ⊥) → dampingOk t F ≡ true → Whole F
-undamped-phi zero F l h k d = λ z. rw (eqb-true F 0 d, share-none z, zero-*ℤ z)
-undamped-phi (suc zero) F l h k d = λ z. rw (eqb-true F 65536 d) (ap (λ (x : ℤ). pos 65536 *ℤ x) (share-one z))
-undamped-phi (suc (suc t)) F l h k d = absurd (omega arith)
+undamped-phi : (even : Bool) (t F : ℕ) → t < 4 → (t ≡ 3 → ⊥) → (t ≡ 2 → ⊥) → dampingOk t F ≡ true → Whole even F
+undamped-phi even zero F l h k d = λ z. rw (eqb-true F 0 d, share-none even z, zero-*ℤ z)
+undamped-phi even (suc zero) F l h k d = λ z. rw (eqb-true F 65536 d) (ap (λ (x : ℤ). pos 65536 *ℤ x) (share-one even z))
+undamped-phi even (suc (suc t)) F l h k d = absurd (omega arith)
 
 -- ---- the season's value is added on both sides
 twice : (b : Bool) (v : ℤ) → cond b (cond b v (pos 0)) (pos 0) ≡ cond b v (pos 0)
@@ -146,14 +147,14 @@ module _ (s : State) (ok : check s ≡ 0) (h : ℕ) where
   damped : DampedBound h (forecastOf s h) (exactFrom s h)
   unfolding AtMost forecastOf
   damped =
-      rw (from-same s h, with-season (65536 ^ h) (trendLine (s .level) (s .phi) (s .trend) h) (exactLine (parametersOf s) (opened s) h) (seasonAt s h))
-      (omega (arith, absolute (h * suc h * 65536 ^ h) (pos (65536 ^ h) *ℤ trendLine (s .level) (s .phi) (s .trend) h -ℤ exactLine (parametersOf s) (opened s) h) (line-error s (bounded s ok .phi) h)))
+      rw (from-same s h, with-season (65536 ^ h) (trendLine (tiesToEven (s .model)) (s .level) (s .phi) (s .trend) h) (exactLine (parametersOf s) (opened s) h) (seasonAt s h))
+      (omega (arith, absolute (h * suc h * 65536 ^ h) (pos (65536 ^ h) *ℤ trendLine (tiesToEven (s .model)) (s .level) (s .phi) (s .trend) h -ℤ exactLine (parametersOf s) (opened s) h) (line-error s (bounded s ok .phi) h)))
 
   undamped : (trendOf (s .model) ≡ 2 → ⊥) → pos (65536 ^ h) *ℤ forecastOf s h ≡ exactFrom s h
   unfolding forecastOf
   undamped k =
-      spread (65536 ^ h) (trendLine (s .level) (s .phi) (s .trend) h) (seasonAt s h)
-      ∙ ap (λ (z : ℤ). z +ℤ pos (65536 ^ h) *ℤ seasonAt s h) (whole-line s (undamped-phi (trendOf (s .model)) (s .phi) (omega arith) (no-third (s .model) (passed s ok .model)) k (allowed s ok .phi)) h)
+      spread (65536 ^ h) (trendLine (tiesToEven (s .model)) (s .level) (s .phi) (s .trend) h) (seasonAt s h)
+      ∙ ap (λ (z : ℤ). z +ℤ pos (65536 ^ h) *ℤ seasonAt s h) (whole-line s (undamped-phi (tiesToEven (s .model)) (trendOf (s .model)) (s .phi) (omega arith) (no-third (s .model) (passed s ok .model)) k (allowed s ok .phi)) h)
       ∙ sym (from-same s h)
 
   level : trendOf (s .model) ≡ 0 → forecastOf s h ≡ s .level +ℤ seasonAt s h

@@ -1,4 +1,4 @@
--- The invariant of a list of calls: a state against the exact recursion that runs beside it. It is kept by a reading and by a missing one.
+-- The invariant of a list of calls: a state against the exact recursion that runs beside it. It is kept by a reading, by a missing one and by a switch of the rounding rule.
 use mathlib.Core.Path.{_≡_, sym, _∙_, ap, subst}
 use mathlib.Core.Bool.{Bool, true, false, cond, not, false≢true}
 use Prim.Native.Nat.{ℕ, suc, _+_, _*_, _-_, _^_, _≤_, _<_}
@@ -10,8 +10,10 @@ use lib.IntN.{ℤ, pos}
 use lib.ListN.{length, getD, set, length-set}
 use Rattle.models.specs.Models.{hasTrend, hasSeason}
 use Rattle.state.specs.States.{check}
+use Rattle.state.specs.Switching.{switched}
 use Rattle.state.specs.declared.State.{State}
 use Rattle.state.proofs.Passing.{bounded, no-season, with-season}
+use Rattle.state.proofs.Switches.{switch-law}
 use Rattle.ets.specs.Steps.{termsOf, nextIndex, newSeason, newSeasonal, residualOf, afterReading, afterMissing}
 use Rattle.ets.specs.Promises.{held}
 use Rattle.ets.proofs.MissingLaws.{after-held}
@@ -179,3 +181,19 @@ module _ (s : State) (x : Exact) (w : Good (parametersOf s) s x) where
       let e = after-held s (w .flat) (w .passes) in
       subst (λ (z : Exact). Good (parametersOf s) (afterMissing s) z) (sym exact-held)
       (subst (λ (t : State). Good (parametersOf s) t x″) (sym e) (held-good (rw e at ok)))
+
+-- ---- a switch: no value moves, and the model keeps its season
+pub good-switch : (c : Parameters) (s : State) (x : Exact) → Good c s x → Good c (switched s) x
+good-switch c s x w =
+    let law = switch-law s in
+    record {
+      passes = law .checks ∙ w .passes;
+      cells = w .cells;
+      flat = law .trend ∙ w .flat;
+      index = w .index;
+      bare = w .bare;
+      level = w .level;
+      places = rw (law .season) (w .places);
+      plain = w .plain;
+      cycle = λ h a g z. subst (λ (b : Bool). CycleInvariant 4294967296 (65536 * (65536 - c .alpha)) (65536 * c .gamma) (c .period) (power x) (s .index) (levelErr s x) (λ k. negD (err (power x) (parts (cond b (getD (s .seasonal) k (pos 0)) (pos 0))) (parts (x .S k))))) (sym (law .season)) (w .cycle h a g z);
+    }

@@ -9,18 +9,20 @@ use lib.IntN.{ℤ, pos}
 use lib.ListN.{length, take, getD}
 use Rattle.state.specs.Fixed.{isSentinel}
 use Rattle.models.specs.Models.{hasSeason}
+use Rattle.state.specs.Switching.{switched}
 use Rattle.state.specs.declared.State.{State}
+use Rattle.state.proofs.Switches.{switch-law}
 use Rattle.state.proofs.Passing.{no-season}
 use Rattle.ets.specs.Steps.{stepCode, missingCode, afterReading, afterMissing}
 use Rattle.ets.specs.Batches.{Run, run, halted, preceded, takeCode, afterTake, batchCode, batchRun}
 use Rattle.forecasts.specs.Forecasts.{forecastOf, forecastList}
 use Rattle.ets.proofs.Kept.{reading-kept, missing-kept}
 use Rattle.traces.specs.Calls.{Call, Result, result}
-use Rattle.traces.proofs.Results.{by-code, Works, reads, misses, takes, forecasts-one, forecasts-all, works}
+use Rattle.traces.proofs.Results.{by-code, Works, reads, misses, switches, takes, forecasts-one, forecasts-all, works}
 use Rattle.drift.specs.Exact.{Parameters, parametersOf, Exact, exactReading, exactMissing, exactTake, exactBatch, exactAfter, Expected, expectedForecast, expectedForecasts, expectedLevels, expected}
 use Rattle.drift.specs.Limits.{HalfPerReading, WithinLimit, EachWithin, none, more, StateWithin, Claim}
 use Rattle.drift.proofs.Readings.{valueAt}
-use Rattle.drift.proofs.Invariant.{Good, good-reading, good-missing}
+use Rattle.drift.proofs.Invariant.{Good, good-reading, good-missing, good-switch}
 use Rattle.drift.proofs.Distances.{level-half, value-half, forecast-close}
 
 -- ---- the invariant, with the parameters that the opening state had
@@ -35,6 +37,9 @@ module _ (c : Parameters) (s : State) (x : Exact) (w : Kept c s x) where
   kept-missing : missingCode s ≡ 0 → Kept c (afterMissing s) (exactMissing c x)
   kept-missing z =
       (w .0, subst (λ (c : Parameters). Good c s x → Good c (afterMissing s) (exactMissing c x)) (w .0) (λ g. good-missing s x g (missing-kept s z)) (w .1))
+
+  kept-switch : Kept c (switched s) x
+  kept-switch = let law = switch-law s in (rw (law .trend, law .season) (w .0), good-switch c s x (w .1))
 
   kept-take : (y : ℤ) → takeCode s y ≡ 0 → Kept c (afterTake s y) (exactTake c x y)
   unfolding takeCode afterTake exactTake
@@ -114,6 +119,7 @@ module _ (c : Parameters) (s : State) (x : Exact) (w : Kept c s x) where
       (by-code (λ b. Kept c (cond b (afterReading s y) s) (cond b (exactReading c x y) x)) n (λ z. kept-reading c s x w y (f z)) w, nothing n)
   fine-works (misses n f) =
       (by-code (λ b. Kept c (cond b (afterMissing s) s) (cond b (exactMissing c x) x)) n (λ z. kept-missing c s x w (f z)) w, nothing n)
+  fine-works (switches n) = (by-code (λ b. Kept c (cond b (switched s) s) x) n (λ z. kept-switch c s x w) w, none)
   fine-works (takes ys room) = left-batch c ys room s x w
   fine-works (forecasts-one h n v f) =
       (w, by-code (λ b. EachWithin c (cond b (v ∷ []) []) (cond b (expectedForecast c x h ∷ []) [])) n (λ z. more (rw (f z) (forecast-within c s x w h)) none) none)

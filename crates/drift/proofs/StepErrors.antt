@@ -13,7 +13,7 @@ use Rattle.integers.specs.Bounds.{Within}
 use Rattle.integers.proofs.Difference.{diff, known, up, dn, scaled}
 use Rattle.integers.proofs.Bounds.{within-zero, within-add, within-sub, within-mul, within-parts}
 use Rattle.state.specs.Fixed.{share}
-use Rattle.models.specs.Models.{hasTrend, hasSeason}
+use Rattle.models.specs.Models.{hasTrend, hasSeason, tiesToEven}
 use Rattle.state.specs.States.{check}
 use Rattle.state.specs.declared.State.{State}
 use Rattle.state.proofs.Passing.{bounded, no-trend, no-season}
@@ -42,30 +42,30 @@ one-unit n z Z h w = go (pos 4294967296 *ℤ z -ℤ Z) w
     go (pos a) w = omega (arith, within-parts w, scaled 2 (pos a))
     go (negsuc a) w = omega (arith, within-parts w, scaled 2 (negsuc a))
 
-module _ (g : ℕ) (hg : g ≤ 65536) (e η E : ℤ) (apart : E ≡ pos 65536 *ℤ e +ℤ η) (small : Within 65536 (pos 2 *ℤ η)) where
-  pub moved : (v Z : ℤ) → pos 65536 *ℤ v -ℤ Z ≡ η → AtMost 1 1 2 (v +ℤ share g e) (adjusted g Z E)
+module _ (even : Bool) (g : ℕ) (hg : g ≤ 65536) (e η E : ℤ) (apart : E ≡ pos 65536 *ℤ e +ℤ η) (small : Within 65536 (pos 2 *ℤ η)) where
+  pub moved : (v Z : ℤ) → pos 65536 *ℤ v -ℤ Z ≡ η → AtMost 1 1 2 (v +ℤ share even g e) (adjusted g Z E)
   unfolding adjusted
   moved v Z h =
       let C : ℕ = 65536 - g in
-      one-unit (C * 65536 + 65536 * 65536) (v +ℤ share g e) (pos 65536 *ℤ Z +ℤ pos g *ℤ E) (omega arith)
-      (rw (apart, ← h, moved-law g C v Z (share g e) e (omega arith))
-      (within-add (within-mul (le-refl C) (rw (← h) at small)) (within-mul (le-refl 65536) (share-error g e))))
+      one-unit (C * 65536 + 65536 * 65536) (v +ℤ share even g e) (pos 65536 *ℤ Z +ℤ pos g *ℤ E) (omega arith)
+      (rw (apart, ← h, moved-law g C v Z (share even g e) e (omega arith))
+      (within-add (within-mul (le-refl C) (rw (← h) at small)) (within-mul (le-refl 65536) (share-error even g e))))
 
-  pub kept : (v : ℤ) → AtMost 1 1 2 (v +ℤ share g e) (adjusted g (pos 65536 *ℤ v) E)
+  pub kept : (v : ℤ) → AtMost 1 1 2 (v +ℤ share even g e) (adjusted g (pos 65536 *ℤ v) E)
   unfolding adjusted
   kept v =
-      one-unit (65536 * 65536 + g * 65536) (v +ℤ share g e) (pos 65536 *ℤ (pos 65536 *ℤ v) +ℤ pos g *ℤ E) (omega arith)
-      (rw (apart, kept-law g v (share g e) e η)
-      (within-sub (within-mul (le-refl 65536) (share-error g e)) (within-mul (le-refl g) small)))
+      one-unit (65536 * 65536 + g * 65536) (v +ℤ share even g e) (pos 65536 *ℤ (pos 65536 *ℤ v) +ℤ pos g *ℤ E) (omega arith)
+      (rw (apart, kept-law g v (share even g e) e η)
+      (within-sub (within-mul (le-refl 65536) (share-error even g e)) (within-mul (le-refl g) small)))
 
 -- ---- the step from a state
 none-missed : (b : Bool) → _≡_ {A = ℕ} (cond b 0 0) 0
 none-missed true = refl
 none-missed false = refl
 
-damped-apart : (b : Bool) (F : ℕ) (t : ℤ) → Within 65536 (pos 2 *ℤ (pos 65536 *ℤ cond b (share F t) (pos 0) -ℤ cond b (pos F *ℤ t) (pos 0)))
-damped-apart true F t = share-error F t
-damped-apart false F t = within-zero 65536
+damped-apart : (b even : Bool) (F : ℕ) (t : ℤ) → Within 65536 (pos 2 *ℤ (pos 65536 *ℤ cond b (share even F t) (pos 0) -ℤ cond b (pos F *ℤ t) (pos 0)))
+damped-apart true even F t = share-error even F t
+damped-apart false even F t = within-zero 65536
 
 residual-law : (l d D s y : ℤ) → pos 65536 *ℤ (pos 65536 *ℤ y) -ℤ (pos 65536 *ℤ l +ℤ D +ℤ pos 65536 *ℤ s) ≡ pos 65536 *ℤ (pos 65536 *ℤ y -ℤ (l +ℤ d +ℤ s)) +ℤ (pos 65536 *ℤ d -ℤ D)
 residual-law l d D s y = rw (known l, known d, known D, known s, known y) (simp diff (omega arith))
@@ -92,7 +92,7 @@ module _ (s : State) (full : length (s .seasonal) ≡ 48) (ok : check s ≡ 0) (
 
   small : Within 65536 (pos 2 *ℤ η)
   unfolding dampedTrend exactDamped
-  small = damped-apart (hasTrend (s .model)) (s .phi) (s .trend)
+  small = damped-apart (hasTrend (s .model)) (tiesToEven (s .model)) (s .phi) (s .trend)
 
   residuals : exactResidual c x y ≡ pos 65536 *ℤ residualOf s y +ℤ η
   unfolding exactResidual residual seasonDue
@@ -101,13 +101,13 @@ module _ (s : State) (full : length (s .seasonal) ≡ 48) (ok : check s ≡ 0) (
   level : AtMost 1 1 2 (afterReading s y .level) (exactReading c x y .L)
   unfolding newLevel
   level =
-      moved (s .alpha) (bounded s ok .alpha) (residualOf s y) η (exactResidual c x y) residuals small (s .level +ℤ dampedTrend s) (pos 65536 *ℤ s .level +ℤ exactDamped c x)
+      moved (tiesToEven (s .model)) (s .alpha) (bounded s ok .alpha) (residualOf s y) η (exactResidual c x y) residuals small (s .level +ℤ dampedTrend s) (pos 65536 *ℤ s .level +ℤ exactDamped c x)
       (level-apart (s .level) (dampedTrend s) (exactDamped c x))
 
   trend : AtMost 1 1 2 (afterReading s y .trend) (exactReading c x y .T)
   unfolding newTrend
   trend =
-      moved (s .beta) (bounded s ok .beta) (residualOf s y) η (exactResidual c x y) residuals small (dampedTrend s) (exactDamped c x) refl
+      moved (tiesToEven (s .model)) (s .beta) (bounded s ok .beta) (residualOf s y) η (exactResidual c x y) residuals small (dampedTrend s) (exactDamped c x) refl
 
   -- the place that the reading has, and another
   module _ (h : hasSeason (s .model) ≡ true) where
@@ -123,7 +123,7 @@ module _ (s : State) (full : length (s .seasonal) ≡ 48) (ok : check s ≡ 0) (
     unfolding newSeason seasonDue
     season-of k (yes q) =
         rw (q, stored-here, season-here c x (exactResidual c x y) h)
-        (kept (s .gamma) (bounded s ok .gamma) (residualOf s y) η (exactResidual c x y) residuals small (x .S (s .index)))
+        (kept (tiesToEven (s .model)) (s .gamma) (bounded s ok .gamma) (residualOf s y) η (exactResidual c x y) residuals small (x .S (s .index)))
     season-of k (no q) =
         rw (stored-there k q, season-there c x (exactResidual c x y) k h q)
         (untouched (x .S k) (exactResidual c x y))
@@ -148,17 +148,17 @@ none-apart v = rw (known v) (simp diff (omega arith))
 
 module _ (s : State) (ok : check s ≡ 0) where
   -- by cases on the trend, which is b
-  level-skipped : (b : Bool) → AtMost 1 2 (0 + cond b 1 0) (s .level +ℤ cond b (share (s .phi) (s .trend)) (pos 0)) (cond b (pos 65536 *ℤ s .level +ℤ cond b (pos (s .phi) *ℤ s .trend) (pos 0)) (s .level))
+  level-skipped : (b : Bool) → AtMost 1 2 (0 + cond b 1 0) (s .level +ℤ cond b (share (tiesToEven (s .model)) (s .phi) (s .trend)) (pos 0)) (cond b (pos 65536 *ℤ s .level +ℤ cond b (pos (s .phi) *ℤ s .trend) (pos 0)) (s .level))
   unfolding AtMost
   level-skipped true =
-      rw (level-apart (s .level) (share (s .phi) (s .trend)) (pos (s .phi) *ℤ s .trend))
-      (half-unit (pos 65536 *ℤ share (s .phi) (s .trend) -ℤ pos (s .phi) *ℤ s .trend) (share-error (s .phi) (s .trend)))
+      rw (level-apart (s .level) (share (tiesToEven (s .model)) (s .phi) (s .trend)) (pos (s .phi) *ℤ s .trend))
+      (half-unit (pos 65536 *ℤ share (tiesToEven (s .model)) (s .phi) (s .trend) -ℤ pos (s .phi) *ℤ s .trend) (share-error (tiesToEven (s .model)) (s .phi) (s .trend)))
   level-skipped false = rw (+ℤ-idr (s .level), none-apart (s .level)) (omega arith)
 
-  trend-skipped : (b : Bool) → hasTrend (s .model) ≡ b → AtMost 1 2 (0 + cond b 1 0) (cond b (share (s .phi) (s .trend)) (pos 0)) (cond b (cond b (pos (s .phi) *ℤ s .trend) (pos 0)) (s .trend))
+  trend-skipped : (b : Bool) → hasTrend (s .model) ≡ b → AtMost 1 2 (0 + cond b 1 0) (cond b (share (tiesToEven (s .model)) (s .phi) (s .trend)) (pos 0)) (cond b (cond b (pos (s .phi) *ℤ s .trend) (pos 0)) (s .trend))
   unfolding AtMost
   trend-skipped true e =
-      half-unit (pos 65536 *ℤ share (s .phi) (s .trend) -ℤ pos (s .phi) *ℤ s .trend) (share-error (s .phi) (s .trend))
+      half-unit (pos 65536 *ℤ share (tiesToEven (s .model)) (s .phi) (s .trend) -ℤ pos (s .phi) *ℤ s .trend) (share-error (tiesToEven (s .model)) (s .phi) (s .trend))
   trend-skipped false e = rw (no-trend s ok e .trend) (omega arith)
 
   season-skipped : (b t : Bool) (v : ℤ) → t ≡ true → pos (65536 ^ (0 + cond b 1 0)) *ℤ v ≡ cond b (pos 65536 *ℤ cond t v (pos 0)) (cond t v (pos 0))

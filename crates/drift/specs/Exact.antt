@@ -10,9 +10,9 @@ use Rattle.state.specs.Fixed.{isSentinel}
 use Rattle.models.specs.Models.{hasTrend, hasSeason}
 use Rattle.state.specs.declared.State.{State}
 use Rattle.ets.specs.Steps.{nextIndex}
-use Rattle.traces.specs.Calls.{Event, observed, unobserved, series, horizon, horizons}
+use Rattle.traces.specs.Calls.{Event, observed, unobserved, untold, series, horizon, horizons}
 
--- the model and its parameters, which no call changes
+-- the trend and the season of the model and its parameters, which no call changes: the rounding rule is none of them
 pub record Parameters : Type 0 where
   pub trended : Bool
   pub seasonal : Bool
@@ -128,6 +128,7 @@ exactForecast c x h =
 unfoldable pub exactAfter : Parameters → Exact → Event → Exact
 exactAfter c x (observed y accepted) = cond accepted (exactReading c x y) x
 exactAfter c x (unobserved accepted) = cond accepted (exactMissing c x) x
+exactAfter c x untold = x
 exactAfter c x (series ys taken) = exactBatch c x (take taken ys)
 exactAfter c x (horizon h accepted) = x
 exactAfter c x (horizons h accepted) = x
@@ -154,6 +155,7 @@ expectedForecasts c x (suc h) = expectedForecasts c x h ++ (expectedForecast c x
 unfoldable pub expected : Parameters → Exact → Event → List Expected
 expected c x (observed y accepted) = []
 expected c x (unobserved accepted) = []
+expected c x untold = []
 expected c x (series ys taken) = expectedLevels c x (take taken ys)
 expected c x (horizon h accepted) = cond accepted (expectedForecast c x h ∷ []) []
 expected c x (horizons h accepted) = cond accepted (expectedForecasts c x h) []

@@ -1,20 +1,20 @@
 -- What keeps demand 3 from being read weaker or emptier than it is: claims that fail, runs that come up to the limits, runs that show what the limits must leave
 -- out, and a run with what is compared. Each is computed.
 use Prim.Native.Nat.{ℕ, zero, suc, _+_, _*_, _-_, _/_, _^_, _≤_, _<_}
-use mathlib.Core.Bool.{false, cond, not}
-use mathlib.Core.List.{List, [], _∷_}
+use mathlib.Core.Bool.{true, false, cond, not}
+use mathlib.Core.List.{List, [], _∷_, _++_}
 use mathlib.Core.Path.{_≡_}
 use lib.Dec.{eqb}
 use lib.IntN.{ℤ, pos, negsuc}
 use lib.ListN.{replicate}
-use Rattle.models.specs.Models.{usualGains}
+use Rattle.models.specs.Models.{usualGains, tiesToEven}
 use Rattle.state.specs.Rejections.{truncated}
 use Rattle.state.specs.States.{stateOf}
 use Rattle.state.specs.declared.State.{State}
 use Rattle.ets.specs.Steps.{afterReading, afterMissing}
 use Rattle.forecasts.specs.Forecasts.{maxHorizon, displayHorizon, forecastOf}
 use Rattle.snapshot.specs.Slices.{inPlaceCode}
-use Rattle.traces.specs.Calls.{followed, cut, sliceOf, Call, Reading, Missing, Batch, Forecast, Forecasts, InPlaceReading, InPlaceMissing, InPlaceForecast, result, after}
+use Rattle.traces.specs.Calls.{followed, cut, sliceOf, Call, Reading, Missing, Switch, Batch, Forecast, Forecasts, InPlaceReading, InPlaceMissing, InPlaceSwitch, InPlaceForecast, result, after}
 use Rattle.drift.specs.Exact.{Parameters, parametersOf, Exact, opened, exactReading, exactForecast, exactAfter, Expected, level-is, forecast-is, expected}
 use Rattle.drift.specs.Limits.{distance, SeasonalBound, WithinLimit, Claim, Opening}
 use Rattle.drift.specs.Components.{OneUnit, StepError, HalfUnit, skipped}
@@ -53,6 +53,9 @@ pub record Refused : Type 0 where
   pub display : ClaimOf (plain (pos 1)) (standing (negsuc 0) 4 0 (pos 0)) (Forecast displayHorizon 1 ∷ []) → ⊥
   pub display-all : ClaimOf (plain (pos 1)) (standing (negsuc 0) 4 0 (pos 0)) (Forecasts displayHorizon 2 (replicate 2 (pos 0)) ∷ []) → ⊥
   pub in-place : ClaimOf (plain (pos 1)) (standing (negsuc 0) 4 0 (pos 0)) (InPlaceForecast (followed []) 1 (pos 0) ∷ []) → ⊥
+  -- after a switch of the rounding rule, direct and in place, the exact recursion stands where it stood, and is compared with
+  pub switched : ClaimOf (plain (pos 1)) (standing (negsuc 0) 4 0 (pos 0)) (Switch ∷ Forecast maxHorizon 1 ∷ []) → ⊥
+  pub switched-in-place : ClaimOf (plain (pos 1)) (standing (negsuc 0) 4 0 (pos 0)) (InPlaceSwitch (followed []) ∷ Forecast maxHorizon 1 ∷ []) → ⊥
   -- the exact recursion goes on from call to call: after a rejected one it stands where it stood
   pub carried : ClaimOf (plain (pos 1)) (standing (negsuc 0) 4 0 (pos 0)) (Forecast maxHorizon 513 ∷ Forecast maxHorizon 1 ∷ []) → ⊥
   -- m + 2m/(γ (1 − α)^m): 2 + 4 × 8 = 34 for m = 2 and α = γ = 1/2; 3 + 6 × 64/27 = 17.2.. for m = 3, α = 1/4, γ = 1
@@ -76,16 +79,24 @@ beside c s x (k ∷ ks) = beside c (result s k .state) (exactAfter c x (result s
 abbrev pub besideFrom : State → List Call → Exact
 besideFrom s calls = beside (parametersOf s) s (opened s) calls
 
--- how far the level is from L after n readings 0 from the state `plain (pos 1)`, in which R leaves l at 1 and L is halved by each
+-- how far the level is from L after so many readings 0 from the state `plain (pos 1)`, in which R leaves l at 1, by either rule, and L is halved by each
+abbrev pub apartAfter : ℕ → List Call → ℕ
+apartAfter n calls = distance (2 * n) (after (plain (pos 1)) calls .level) (besideFrom (plain (pos 1)) calls .L)
+
 unfoldable pub creep : ℕ → ℕ
-creep n =
-    let calls = replicate n (Reading (pos 0)) in
-    distance (2 * n) (after (plain (pos 1)) calls .level) (besideFrom (plain (pos 1)) calls .L)
+creep n = apartAfter n (replicate n (Reading (pos 0)))
+
+-- with a switch after n of them, and k more
+unfoldable pub creepAcross : ℕ → ℕ → ℕ
+creepAcross n k = apartAfter (n + k) (replicate n (Reading (pos 0)) ++ (Switch ∷ replicate k (Reading (pos 0))))
 
 pub record Attained : Type 0 where
   -- n/2 after one reading; 1/(2α) = 1 but for a 65,536th after sixteen
   pub half : 2 * creep 1 ≡ 1 * 65536 ^ 2
   pub plain-sixteen : 65536 * creep 16 ≡ 65535 * 65536 ^ 32
+  -- with ties to even from the start, and with a switch after eight: the limit is met too
+  pub even-sixteen : 65536 * creepAcross 0 16 ≡ 65535 * 65536 ^ 32
+  pub across : 65536 * creepAcross 8 8 ≡ 65535 * 65536 ^ 32
   -- one unit but for a 65,536th: d is 1 for 1/2, and R(A × e) is 1 for 1/2 and a bit
   pub step : 65535 * 65536 ^ 2 ≤ 65536 * distance 2 (afterReading (damped 1 32768 (pos 32767) (pos 1)) (pos 1) .level) (exactReading (parametersOf (damped 1 32768 (pos 32767) (pos 1))) (opened (damped 1 32768 (pos 32767) (pos 1))) (pos 1) .L)
   -- half a unit at a missing reading: d is 1 for 1/2
@@ -137,7 +148,7 @@ pub record Needed : Type 0 where
   pub unclaimed : WithinLimit (parametersOf gone) (negsuc 425970) (forecast-is (exactForecast (parametersOf gone) goneExact 2) 28 13)
 
 -- ---- a run with every kind of call, from a count of 2^48 − 5: rejected are the reading 1,000,001 (13), the forecasts at 513 and, on the bedside display, at 49
--- (11), the call in place with a byte after the snapshot (3) and the one with a byte too few (4), the batch at its third reading (13), and the last reading, for the
+-- (11), the calls in place with a byte after the snapshot (3) and the one with a byte too few (4), the batch at its third reading (13), and the last reading, for the
 -- count is then full (14)
 abbrev pub opening : State
 opening = stateOf false 4 2 20000 0 30001 0 (pos 0) (pos 0) (pos 65536 ∷ negsuc 65535 ∷ []) 0 281474976710651
@@ -145,7 +156,9 @@ opening = stateOf false 4 2 20000 0 30001 0 (pos 0) (pos 0) (pos 65536 ∷ negsu
 unfoldable pub calls : List Call
 calls =
     Reading (pos 5)
+    ∷ InPlaceSwitch (followed (0x14 ∷ []))
     ∷ Forecasts maxHorizon 3 (replicate 4 (pos 9))
+    ∷ Switch
     ∷ Forecasts displayHorizon 2 (replicate 2 (pos 9))
     ∷ Forecast displayHorizon 2
     ∷ Reading (pos 1000001)
@@ -155,6 +168,7 @@ calls =
     ∷ InPlaceForecast (followed []) 2 (pos 7)
     ∷ InPlaceReading (followed (0x21 ∷ [])) (pos 4)
     ∷ InPlaceReading (cut 65) (pos 4)
+    ∷ InPlaceSwitch (cut 66)
     ∷ Batch (pos 1 ∷ negsuc 2147483647 ∷ pos 1000001 ∷ pos 2 ∷ []) (replicate 5 (pos 9))
     ∷ InPlaceMissing (cut 66)
     ∷ Forecast maxHorizon 1
@@ -168,13 +182,18 @@ pub record Shown : Type 0 where
   -- a state that 18 opened is an opening state too
   pub opens-outside : Opening (creeping (pos 0))
   pub holds : ClaimOf opening (opened opening) calls
+  -- ties went up before the switch and go to even after the list
+  pub rule-before : tiesToEven (after opening (Reading (pos 5) ∷ InPlaceSwitch (followed (0x14 ∷ [])) ∷ []) .model) ≡ false
+  pub rule-after : tiesToEven (after opening calls .model) ≡ true
   pub short : inPlaceCode (sliceOf opening (cut 65)) ≡ truncated
   pub compares : compared (parametersOf opening) opening (opened opening) calls
       ≡ ([], [])
+      ∷ ([], [])
       ∷ (
         pos 14464 ∷ pos 265540 ∷ pos 14464 ∷ [],
         forecast-is (pos (947912704 * 65536 ^ 2)) 3 0 ∷ forecast-is (pos (17402429440 * 65536 ^ 3)) 4 0 ∷ forecast-is (pos (947912704 * 65536 ^ 4)) 5 0 ∷ [],
       )
+      ∷ ([], [])
       ∷ (pos 14464 ∷ pos 265540 ∷ [], forecast-is (pos (947912704 * 65536 ^ 2)) 3 0 ∷ forecast-is (pos (17402429440 * 65536 ^ 3)) 4 0 ∷ [])
       ∷ (pos 265540 ∷ [], forecast-is (pos (17402429440 * 65536 ^ 3)) 4 0 ∷ [])
       ∷ ([], [])
@@ -182,6 +201,7 @@ pub record Shown : Type 0 where
       ∷ ([], [])
       ∷ ([], [])
       ∷ (pos 153432 ∷ [], forecast-is (pos (658983803158528 * 65536 ^ 4)) 6 0 ∷ [])
+      ∷ ([], [])
       ∷ ([], [])
       ∷ ([], [])
       ∷ (pos 57586 ∷ pos 57586 ∷ [], level-is (pos (16209040145121280000 * 65536 ^ 3)) 3 ∷ level-is (pos (16209040145121280000 * 65536 ^ 3)) 3 ∷ [])

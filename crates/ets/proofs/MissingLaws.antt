@@ -6,7 +6,7 @@ use lib.Dec.{eqb, eqb·suc-zero}
 use lib.IntN.{pos, _+ℤ_, +ℤ-idr}
 use lib.Seq.{set-getD}
 use borrow.Author.Tests.{eqb-true}
-use Rattle.models.specs.Models.{hasTrend}
+use Rattle.models.specs.Models.{hasTrend, tiesToEven}
 use Rattle.state.specs.Rejections.{_then_, outcome}
 use Rattle.state.specs.States.{check}
 use Rattle.state.specs.declared.State.{State}
@@ -66,9 +66,9 @@ step-zero s ok =
     let v = valid s ok in
     rw (
       seasonal-is s v (pos 0),
-      share-zero (s .alpha),
-      share-zero (s .beta),
-      share-zero (s .gamma),
+      share-zero (tiesToEven (s .model)) (s .alpha),
+      share-zero (tiesToEven (s .model)) (s .beta),
+      share-zero (tiesToEven (s .model)) (s .gamma),
       +ℤ-idr (s .level +ℤ dampedTrend s),
       +ℤ-idr (dampedTrend s),
       +ℤ-idr (seasonDue s),

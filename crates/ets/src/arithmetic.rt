@@ -21,20 +21,22 @@ ghost use Rattle.ets.specs.Steps.{residual, nextIndex, countCode};
 ghost use Rattle.ets.specs.Updates.{numbersOf, termsAt, corrections, notUpdated, readingUpdate, advance, missingUpdate};
 ghost use Rattle.ets.specs.Bounds.{NumbersIn, AdvanceIn, TermsIn};
 
-// R(v): the sum before the shift makes it round to nearest, halves up.
-fn round(v: i64) -> i64
+// R(v): what is added before the shift makes it round to nearest. For ties to even it is one less where the whole part is even, without a branch.
+fn round(even: bool, v: i64) -> i64
     requires { ⌜ Within 4611686018427387904 v ⌝ }
-    ensures { λ r. ⌜ r ≡ R v ⌝ }
+    ensures { λ r. ⌜ r ≡ R even v ⌝ }
 {
-    (v + 32768) >> 16
+    let rule = even as i64;
+    let odd = (v >> 16) & rule;
+    (v + (32768 - rule) + odd) >> 16
 }
 
 // R(a × x): the share that a parameter gives of x.
-pub fn share(a: u32, x: i64) -> i64
+pub fn share(even: bool, a: u32, x: i64) -> i64
     requires { ⌜ (a ≤ 65536) × Within 8796093022208 x ⌝ }
-    ensures { λ r. ⌜ r ≡ share a x ⌝ }
+    ensures { λ r. ⌜ r ≡ share even a x ⌝ }
 {
-    round((a as i64) * x)
+    round(even, (a as i64) * x)
 }
 
 // The numbers of a state that a step reads.
@@ -56,16 +58,17 @@ pub fn numbers_of(s: State) -> Numbers
     }
 }
 
-fn terms_at(n: Numbers) -> Terms
+fn terms_at(even: bool, n: Numbers) -> Terms
     requires { ⌜ NumbersIn n ⌝ }
-    ensures { λ r. ⌜ r ≡ termsAt n ⌝ }
+    ensures { λ r. ⌜ r ≡ termsAt even n ⌝ }
 {
     Terms {
+        even,
         alpha: n.alpha,
         beta: n.beta,
         gamma: n.gamma,
         level: n.level,
-        damped: share(n.phi, n.trend),
+        damped: share(even, n.phi, n.trend),
         season: n.season,
     }
 }
@@ -84,9 +87,9 @@ fn corrections(t: Terms, e: i64) -> Update
 {
     Update {
         code: 0,
-        level: t.level + t.damped + share(t.alpha, e),
-        trend: t.damped + share(t.beta, e),
-        season: t.season + share(t.gamma, e),
+        level: t.level + t.damped + share(t.even, t.alpha, e),
+        trend: t.damped + share(t.even, t.beta, e),
+        season: t.season + share(t.even, t.gamma, e),
         residual: e,
     }
 }
@@ -123,15 +126,15 @@ fn early_code(count: u64, y: i32) -> u8
 }
 
 // A reading: its rejection (13, 14, 15), or the numbers after it.
-pub fn reading_update(n: Numbers, y: i32) -> Update
+pub fn reading_update(even: bool, n: Numbers, y: i32) -> Update
     requires { ⌜ NumbersIn n ⌝ }
-    ensures { λ r. ⌜ r ≡ readingUpdate n y ⌝ }
+    ensures { λ r. ⌜ r ≡ readingUpdate even n y ⌝ }
 {
     let code = early_code(n.count, y);
     if code != 0 {
         return not_updated(code);
     }
-    let t = terms_at(n);
+    let t = terms_at(even, n);
     let u = corrections(t, residual(t, y));
     if stays(u) {
         u
@@ -141,11 +144,11 @@ pub fn reading_update(n: Numbers, y: i32) -> Update
 }
 
 // The numbers that the model itself expects next: a missing reading takes them.
-fn advance(n: Numbers) -> Update
+fn advance(even: bool, n: Numbers) -> Update
     requires { ⌜ AdvanceIn n ⌝ }
-    ensures { λ r. ⌜ r ≡ advance (termsAt n) ⌝ }
+    ensures { λ r. ⌜ r ≡ advance (termsAt even n) ⌝ }
 {
-    let damped = share(n.phi, n.trend);
+    let damped = share(even, n.phi, n.trend);
     Update {
         code: 0,
         level: n.level + damped,
@@ -156,11 +159,11 @@ fn advance(n: Numbers) -> Update
 }
 
 // A missing reading: its rejection (14, 15), or the numbers after it.
-pub fn missing_update(n: Numbers) -> Update
+pub fn missing_update(even: bool, n: Numbers) -> Update
     requires { ⌜ AdvanceIn n ⌝ }
-    ensures { λ r. ⌜ r ≡ missingUpdate n ⌝ }
+    ensures { λ r. ⌜ r ≡ missingUpdate even n ⌝ }
 {
-    let u = advance(n);
+    let u = advance(even, n);
     let full = count_code(n.count);
     let out = unless(in_range(u.level), LEAVES_RANGE);
     let code = first(full, out);

@@ -22,8 +22,9 @@ pub struct Numbers {
     pub count: u64,
 }
 
-// What a step is made of: the gains, the level, the damped trend (document 01's d) and the season value that is due.
+// What a step is made of: the rounding rule (whether ties go to the even number), the gains, the level, the damped trend (document 01's d) and the season value that is due.
 pub struct Terms {
+    pub even: bool,
     pub alpha: u32,
     pub beta: u32,
     pub gamma: u32,

@@ -6,6 +6,7 @@ use super::arithmetic::missing_update;
 use super::arithmetic::next_index;
 use super::arithmetic::numbers_of;
 use super::arithmetic::reading_update;
+use models::ties_to_even;
 use state::Answer;
 use state::Outcome;
 use state::State;
@@ -58,7 +59,7 @@ pub fn step(s: State, y: i32) -> Stepped
     if n != 0 {
         return rejected_step(s, n);
     }
-    let u = reading_update(numbers_of(s), y);
+    let u = reading_update(ties_to_even(s.model), numbers_of(s), y);
     let k = u.code;
     if k != 0 {
         return rejected_step(s, k);
@@ -77,7 +78,7 @@ pub fn missing(s: State) -> Missed
     if n != 0 {
         return rejected_missing(s, n);
     }
-    let u = missing_update(numbers_of(s));
+    let u = missing_update(ties_to_even(s.model), numbers_of(s));
     let k = u.code;
     if k != 0 {
         return rejected_missing(s, k);

@@ -38,15 +38,15 @@ fn numbers_code(n: Numbers) -> u8
     first(code, unless(count_ok(n.count), BAD_POSITION))
 }
 
-// A reading on the numbers of a state: what it makes of them, or the rejection.
-pub fn update(n: Numbers, y: i32) -> Update
-    ensures { λ r. ⌜ r ≡ update n y ⌝ }
+// A reading on the rounding rule and the numbers of a state: what it makes of them, or the rejection.
+pub fn update(even: bool, n: Numbers, y: i32) -> Update
+    ensures { λ r. ⌜ r ≡ update even n y ⌝ }
 {
     let code = numbers_code(n);
     if code != 0 {
         return not_updated(code);
     }
-    reading_update(n, y)
+    reading_update(even, n, y)
 }
 
 // The same of the numbers that a missing reading has a use for: no gain and no season value is among them.
@@ -61,13 +61,13 @@ fn advance_code(n: Numbers) -> u8
     first(values, unless(count_ok(n.count), BAD_POSITION))
 }
 
-// A missing reading on the numbers of a state.
-pub fn update_missing(n: Numbers) -> Update
-    ensures { λ r. ⌜ r ≡ updateMissing n ⌝ }
+// A missing reading on the rounding rule and the numbers of a state.
+pub fn update_missing(even: bool, n: Numbers) -> Update
+    ensures { λ r. ⌜ r ≡ updateMissing even n ⌝ }
 {
     let code = advance_code(n);
     if code != 0 {
         return not_updated(code);
     }
-    missing_update(n)
+    missing_update(even, n)
 }

@@ -44,15 +44,15 @@ forecast-ready limit s h z =
     record { valid = a .0; least = leb-true 1 h (p .0); most = leb-true h limit (p .1) }
 
 -- each trend is no larger than b
-pub trend-within : {n : ℕ} {b : ℤ} (F : ℕ) → F ≤ 65536 → Within n b → (j : ℕ) → Within n (trendAt F b j)
+pub trend-within : (even : Bool) {n : ℕ} {b : ℤ} (F : ℕ) → F ≤ 65536 → Within n b → (j : ℕ) → Within n (trendAt even F b j)
 unfolding trendAt
-trend-within F h w zero = w
-trend-within F h w (suc j) = share-within h (trend-within F h w j)
+trend-within even F h w zero = w
+trend-within even F h w (suc j) = share-within even h (trend-within even F h w j)
 
-pub line-within : {l b : ℤ} (F : ℕ) → F ≤ 65536 → Within 1099511627776 l → Within 1099511627776 b → (h : ℕ) → Within (1099511627776 + 1099511627776 * h) (trendLine l F b h)
+pub line-within : (even : Bool) {l b : ℤ} (F : ℕ) → F ≤ 65536 → Within 1099511627776 l → Within 1099511627776 b → (h : ℕ) → Within (1099511627776 + 1099511627776 * h) (trendLine even l F b h)
 unfolding trendLine
-line-within F f l b zero = l
-line-within F f l b (suc h) = within-le _ (omega arith) (within-add (line-within F f l b h) (trend-within F f b (suc h)))
+line-within even F f l b zero = l
+line-within even F f l b (suc h) = within-le _ (omega arith) (within-add (line-within even F f l b h) (trend-within even F f b (suc h)))
 
 -- ---- the seasonal index i steps on
 unfoldable pub ahead : ℕ → ℕ → ℕ → ℕ
@@ -127,24 +127,24 @@ list-more s i cells h =
     ∙ sym (append-snoc (forecastList s i) (forecastOf s (suc i)) (drop (suc i) cells)))
 
 -- ---- a turn of the loops: d is the trend and l the line of i steps from numbers within their bounds, and r is the share F of d
-pub record Turn (l : ℤ) (F : ℕ) (b : ℤ) (i : ℕ) (line r : ℤ) : Type 0 where
-  pub trend : toZ w64 (ofZ w64 r) ≡ trendAt F b (suc i)
+pub record Turn (even : Bool) (l : ℤ) (F : ℕ) (b : ℤ) (i : ℕ) (line r : ℤ) : Type 0 where
+  pub trend : toZ w64 (ofZ w64 r) ≡ trendAt even F b (suc i)
   pub fits : SFits w64 (line +ℤ toZ w64 (ofZ w64 r))
-  pub line-is : toZ w64 (ofZ w64 (line +ℤ toZ w64 (ofZ w64 r))) ≡ trendLine l F b (suc i)
+  pub line-is : toZ w64 (ofZ w64 (line +ℤ toZ w64 (ofZ w64 r))) ≡ trendLine even l F b (suc i)
 
-module _ (l : ℤ) (F : ℕ) (b : ℤ) (f : F ≤ 65536) (wl : Within 1099511627776 l) (wb : Within 1099511627776 b) where
-  pub line-bound : (h : ℕ) → h ≤ 512 → Within 564049465049088 (trendLine l F b h)
-  line-bound h k = within-le 564049465049088 (omega arith) (line-within F f wl wb h)
+module _ (even : Bool) (l : ℤ) (F : ℕ) (b : ℤ) (f : F ≤ 65536) (wl : Within 1099511627776 l) (wb : Within 1099511627776 b) where
+  pub line-bound : (h : ℕ) → h ≤ 512 → Within 564049465049088 (trendLine even l F b h)
+  line-bound h k = within-le 564049465049088 (omega arith) (line-within even F f wl wb h)
 
-  pub trend-bound : (i : ℕ) → Within 8796093022208 (trendAt F b i)
-  trend-bound i = within-le 8796093022208 (omega arith) (trend-within F f wb i)
+  pub trend-bound : (i : ℕ) → Within 8796093022208 (trendAt even F b i)
+  trend-bound i = within-le 8796093022208 (omega arith) (trend-within even F f wb i)
 
-  pub turn : (i : ℕ) → i < 512 → (d line r : ℤ) → d ≡ trendAt F b i → line ≡ trendLine l F b i → mag r < 2 ^ 63 → r ≡ share F d → Turn l F b i line r
+  pub turn : (i : ℕ) → i < 512 → (d line r : ℤ) → d ≡ trendAt even F b i → line ≡ trendLine even l F b i → mag r < 2 ^ 63 → r ≡ share even F d → Turn even l F b i line r
   unfolding trendAt trendLine
   turn i h d line r ed el fr er =
-      let t : toZ w64 (ofZ w64 r) ≡ trendAt F b (suc i) = back w64 r fr ∙ er ∙ rw ed in
-      let w : SFits w64 (trendLine l F b (suc i)) = within-fits w64 (line-bound (suc i) (omega arith)) (omega arith) in
-      record { trend = t; fits = rw (t, el) w; line-is = rw (t, el) (toZ-ofZ w64 (trendLine l F b (suc i)) w) }
+      let t : toZ w64 (ofZ w64 r) ≡ trendAt even F b (suc i) = back w64 r fr ∙ er ∙ rw ed in
+      let w : SFits w64 (trendLine even l F b (suc i)) = within-fits w64 (line-bound (suc i) (omega arith)) (omega arith) in
+      record { trend = t; fits = rw (t, el) w; line-is = rw (t, el) (toZ-ofZ w64 (trendLine even l F b (suc i)) w) }
 
 -- ---- the forecast on the numbers of a state that passes its checks, with any season value in range, is rejected as the state's
 pub from-code : (s : State) → check s ≡ 0 → (v : ℤ) → Within 1099511627776 v → (h : ℕ) → forecastFromCode (s .level) (s .phi) (s .trend) v h ≡ forecastCode s h

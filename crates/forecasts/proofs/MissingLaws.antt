@@ -1,12 +1,14 @@
 -- The forecast after a missing reading: its trends, its line and its seasonal index are those of one step on.
 use Prim.Native.Nat.{ℕ, zero, suc, _+_, _≤_, _<_}
 use mathlib.Core.Path.{_≡_, refl, sym, ap, ap₂, _∙_}
+use mathlib.Core.Bool.{Bool}
 use native.Mathlib.Numerals.{add-one}
 use native.Mathlib.Omega.{arith}
 use lib.IntN.{ℤ, pos, _+ℤ_}
 use lib.ListN.{getD}
 use borrow.Author.Tests.{le-leb}
 use Rattle.state.specs.Fixed.{share}
+use Rattle.models.specs.Models.{tiesToEven}
 use Rattle.state.specs.declared.State.{State}
 use Rattle.state.proofs.Passing.{valid}
 use Rattle.ets.specs.Steps.{dampedTrend, nextIndex, advanced, afterMissing, missingCode, missing}
@@ -17,15 +19,15 @@ use Rattle.forecasts.specs.Forecasts.{trendAt, trendLine, seasonAt, maxH
 use Rattle.forecasts.specs.Promises.{MissingForecasts}
 use Rattle.forecasts.proofs.ForecastLaws.{ahead, season-ahead}
 
-trend-on : (F : ℕ) (b : ℤ) (j : ℕ) → trendAt F (share F b) j ≡ trendAt F b (suc j)
+trend-on : (even : Bool) (F : ℕ) (b : ℤ) (j : ℕ) → trendAt even F (share even F b) j ≡ trendAt even F b (suc j)
 unfolding trendAt
-trend-on F b zero = refl
-trend-on F b (suc j) = ap (share F) (trend-on F b j)
+trend-on even F b zero = refl
+trend-on even F b (suc j) = ap (share even F) (trend-on even F b j)
 
-line-on : (l : ℤ) (F : ℕ) (b : ℤ) (h : ℕ) → trendLine (l +ℤ share F b) F (share F b) h ≡ trendLine l F b (suc h)
+line-on : (even : Bool) (l : ℤ) (F : ℕ) (b : ℤ) (h : ℕ) → trendLine even (l +ℤ share even F b) F (share even F b) h ≡ trendLine even l F b (suc h)
 unfolding trendAt trendLine
-line-on l F b zero = refl
-line-on l F b (suc h) = ap₂ (λ (x y : ℤ). x +ℤ y) (line-on l F b h) (trend-on F b (suc h))
+line-on even l F b zero = refl
+line-on even l F b (suc h) = ap₂ (λ (x y : ℤ). x +ℤ y) (line-on even l F b h) (trend-on even F b (suc h))
 
 ahead-on : (m p i : ℕ) → ahead m (nextIndex m p) i ≡ ahead m p (suc i)
 unfolding ahead
@@ -39,8 +41,8 @@ module _ (s : State) (z : missingCode s ≡ 0) where
       ∙ ap (λ (k : ℕ). getD (s .seasonal) k (pos 0)) (ahead-on (s .period) (s .index) i)
       ∙ sym (season-ahead s (valid s (missing-facts s z .valid)) (suc i))
 
-  line-is : (h : ℕ) → trendLine (s .level +ℤ dampedTrend s) (s .phi) (dampedTrend s) h ≡ trendLine (s .level) (s .phi) (s .trend) (suc h)
-  line-is h = rw (damped-is s (valid s (missing-facts s z .valid))) (line-on (s .level) (s .phi) (s .trend) h)
+  line-is : (h : ℕ) → trendLine (tiesToEven (s .model)) (s .level +ℤ dampedTrend s) (s .phi) (dampedTrend s) h ≡ trendLine (tiesToEven (s .model)) (s .level) (s .phi) (s .trend) (suc h)
+  line-is h = rw (damped-is s (valid s (missing-facts s z .valid))) (line-on (tiesToEven (s .model)) (s .level) (s .phi) (s .trend) h)
 
   forecast-on : (i : ℕ) → forecastOf (afterMissing s) (suc i) ≡ forecastOf s (suc (suc i))
   unfolding forecastOf advanced

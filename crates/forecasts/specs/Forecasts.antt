@@ -7,28 +7,28 @@ use lib.IntN.{ℤ, pos, _+ℤ_}
 use lib.ListN.{length, drop, getD}
 use Rattle.state.specs.Rejections.{unless, _then_, accepting, outcome, answer, bad-parameter, bad-value, bad-horizon, short-buffer}
 use Rattle.state.specs.Fixed.{share, inRange}
-use Rattle.models.specs.Models.{hasSeason}
+use Rattle.models.specs.Models.{hasSeason, tiesToEven}
 use Rattle.state.specs.States.{check}
 use Rattle.state.specs.declared.State.{State}
 use Rattle.state.specs.declared.Answer.{Answer}
 use Rattle.state.specs.declared.Outcome.{Outcome}
 
--- d1 = R(F × b), and each next d is R(F × the one before)
-unfoldable pub trendAt : ℕ → ℤ → ℕ → ℤ
-trendAt F b zero = b
-trendAt F b (suc j) = share F (trendAt F b j)
+-- d1 = R(F × b), and each next d is R(F × the one before), by the rounding rule
+unfoldable pub trendAt : Bool → ℕ → ℤ → ℕ → ℤ
+trendAt even F b zero = b
+trendAt even F b (suc j) = share even F (trendAt even F b j)
 
 -- l, plus d1 to dh
-unfoldable pub trendLine : ℤ → ℕ → ℤ → ℕ → ℤ
-trendLine l F b zero = l
-trendLine l F b (suc h) = trendLine l F b h +ℤ trendAt F b (suc h)
+unfoldable pub trendLine : Bool → ℤ → ℕ → ℤ → ℕ → ℤ
+trendLine even l F b zero = l
+trendLine even l F b (suc h) = trendLine even l F b h +ℤ trendAt even F b (suc h)
 
 -- with a season, its value at place (p + h − 1) modulo m
 unfoldable pub seasonAt : State → ℕ → ℤ
 seasonAt s h = cond (hasSeason (s .model)) (getD (s .seasonal) ((s .index + h - 1) % s .period) (pos 0)) (pos 0)
 
 unfoldable pub forecastOf : State → ℕ → ℤ
-forecastOf s h = trendLine (s .level) (s .phi) (s .trend) h +ℤ seasonAt s h
+forecastOf s h = trendLine (tiesToEven (s .model)) (s .level) (s .phi) (s .trend) h +ℤ seasonAt s h
 
 -- the horizon h is 1 to 512; on the bedside display 1 to 48 (document 02, W-206)
 abbrev pub maxHorizon : ℕ
@@ -92,12 +92,12 @@ displayForecasts = forecastsTo displayHorizon
 abbrev pub displayForecastCells : State → ℕ → List ℤ → List ℤ
 displayForecastCells = forecastCellsTo displayHorizon
 
--- ---- the call on numbers: l, F, b and the season's value for the horizon; 7, 9, then 11
+-- ---- the call on numbers: the rounding rule, l, F, b and the season's value for the horizon; 7, 9, then 11
 abbrev pub forecastFromCode : ℤ → ℕ → ℤ → ℤ → ℕ → ℕ
 forecastFromCode l F b s h =
     unless (leb F 65536) bad-parameter
     then unless (inRange l && inRange b && inRange s) bad-value
     then unless (horizonOk maxHorizon h) bad-horizon
 
-unfoldable pub forecastFrom : ℤ → ℕ → ℤ → ℤ → ℕ → Answer
-forecastFrom l F b s h = answer (forecastFromCode l F b s h) (trendLine l F b h +ℤ s)
+unfoldable pub forecastFrom : Bool → ℤ → ℕ → ℤ → ℤ → ℕ → Answer
+forecastFrom even l F b s h = answer (forecastFromCode l F b s h) (trendLine even l F b h +ℤ s)

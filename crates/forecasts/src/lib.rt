@@ -3,6 +3,7 @@ pub mod promises;
 mod sums;
 
 use models::ONE;
+use models::ties_to_even;
 use state::Answer;
 use state::BAD_HORIZON;
 use state::BAD_PARAMETER;
@@ -54,7 +55,9 @@ fn forecast_to(limit: u32, s: State, h: u32) -> Answer
     if n != 0 {
         return Answer::Rejected(n);
     }
-    Answer::Accepted(trend_line(s.level, s.phi, s.trend, h) + season_at(s, h))
+    Answer::Accepted(
+        trend_line(ties_to_even(s.model), s.level, s.phi, s.trend, h) + season_at(s, h),
+    )
 }
 
 // The forecast for one horizon.
@@ -111,13 +114,13 @@ fn from_code(level: i64, phi: u32, trend: i64, season: i64, h: u32) -> u8
     first(code, unless(horizon_ok(MAX_HORIZON, h), BAD_HORIZON))
 }
 
-// The forecast on numbers: the level, phi, the trend and the season value of the horizon.
-pub fn forecast_from(level: i64, phi: u32, trend: i64, season: i64, h: u32) -> Answer
-    ensures { λ r. ⌜ r ≡ forecastFrom level phi trend season h ⌝ }
+// The forecast on numbers: the rounding rule, the level, phi, the trend and the season value of the horizon.
+pub fn forecast_from(even: bool, level: i64, phi: u32, trend: i64, season: i64, h: u32) -> Answer
+    ensures { λ r. ⌜ r ≡ forecastFrom even level phi trend season h ⌝ }
 {
     let n = from_code(level, phi, trend, season, h);
     if n != 0 {
         return Answer::Rejected(n);
     }
-    Answer::Accepted(trend_line(level, phi, trend, h) + season)
+    Answer::Accepted(trend_line(even, level, phi, trend, h) + season)
 }

@@ -1,34 +1,50 @@
 // The sums of a forecast, from a state that passed its checks.
 use ets::next_index;
 use models::has_season;
+use models::ties_to_even;
 use state::State;
 ghost use mathlib.Core.Path.{_≡_};
 ghost use mathlib.Core.List.{_++_};
 ghost use Prim.Native.Nat.{_≤_};
 ghost use lib.ListN.{length, drop};
 ghost use Rattle.integers.specs.Bounds.{Within};
-ghost use Rattle.state.specs.Fixed.{share};
+ghost use Rattle.state.specs.Fixed.{R, share};
 ghost use Rattle.state.specs.Valid.{Valid};
 ghost use Rattle.forecasts.specs.Forecasts.{trendLine, seasonAt, forecastList};
 
-// R(a × x): the share that a parameter gives of x. As in the step, the sum before the shift makes it round to nearest, halves up.
-fn share(a: u32, x: i64) -> i64
-    requires { ⌜ (a ≤ 65536) × Within 8796093022208 x ⌝ }
-    ensures { λ r. ⌜ r ≡ share a x ⌝ }
+// R(v), as in the step: for ties to even one less is added where the whole part is even, without a branch.
+fn round(even: bool, v: i64) -> i64
+    requires { ⌜ Within 4611686018427387904 v ⌝ }
+    ensures { λ r. ⌜ r ≡ R even v ⌝ }
 {
-    ((a as i64) * x + 32768) >> 16
+    let rule = even as i64;
+    let odd = (v >> 16) & rule;
+    (v + (32768 - rule) + odd) >> 16
+}
+
+// R(a × x): the share that a parameter gives of x. By each rule on its own, so that the compiler takes the test out of the loops below.
+fn share(even: bool, a: u32, x: i64) -> i64
+    requires { ⌜ (a ≤ 65536) × Within 8796093022208 x ⌝ }
+    ensures { λ r. ⌜ r ≡ share even a x ⌝ }
+{
+    let v = (a as i64) * x;
+    if even {
+        round(true, v)
+    } else {
+        round(false, v)
+    }
 }
 
 // The level and the trends of h steps.
-pub fn trend_line(level: i64, phi: u32, trend: i64, h: u32) -> i64
+pub fn trend_line(even: bool, level: i64, phi: u32, trend: i64, h: u32) -> i64
     requires { ⌜ (phi ≤ 65536) × Within 1099511627776 level × Within 1099511627776 trend × (h ≤ 512) ⌝ }
-    ensures value { λ r. ⌜ r ≡ trendLine level phi trend h ⌝ }
+    ensures value { λ r. ⌜ r ≡ trendLine even level phi trend h ⌝ }
     ensures bound { λ r. ⌜ Within 564049465049088 r ⌝ }
 {
     let mut line = level;
     let mut d = trend;
     for j in 0..h {
-        d = share(phi, d);
+        d = share(even, phi, d);
         line = line + d;
     }
     line
@@ -53,12 +69,13 @@ pub fn fill(s: State, h: usize, values: &mut [i64])
     requires { ⌜ Valid s × (h ≤ 512) × (h ≤ length (now values)) ⌝ }
     ensures { λ _. ⌜ now (values .exit) ≡ forecastList s h ++ drop h (now (values .entry)) ⌝ }
 {
+    let even = ties_to_even(s.model);
     let mut line = s.level;
     let mut d = s.trend;
     let mut p = s.index;
     let mut i = 0;
     while i < h {
-        d = share(s.phi, d);
+        d = share(even, s.phi, d);
         line = line + d;
         let k = p as usize;
         let season = s.seasonal[k];

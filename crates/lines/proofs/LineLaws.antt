@@ -1,27 +1,35 @@
 -- Laws of a reply's line: how long it is, and what writing one gives.
 use Prim.Native.Nat.{ℕ, zero, suc, _+_, _*_, _≤_, _<_}
-use mathlib.Core.Path.{_≡_, refl}
+use mathlib.Core.Path.{_≡_, refl, ap}
 use mathlib.Core.Bool.{Bool, true, false}
 use mathlib.Core.List.{List, [], _∷_}
 use native.Mathlib.Omega.{arith}
 use borrow.Author.Tests.{le-leb, lt-leb, leb-true}
-use lib.Dec.{leb}
+use lib.Dec.{eqb, leb}
 use lib.IntN.{ℤ, pos, negsuc}
 use lib.ListN.{length, length-append, take}
 use lib.Seq.{sets}
 use Rattle.state.specs.Rejections.{unless}
-use Rattle.replies.specs.Replies.{fieldsOf}
+use Rattle.replies.specs.Replies.{noLetter, fieldsOf}
 use Rattle.lines.specs.Lines.{decimal, signedDecimal, numberBytes, fieldsBytes, lineOf, line, writeLine, lineBytes}
 use Rattle.replies.specs.declared.Reply.{Reply}
-use Rattle.replies.specs.declared.Reply.the-variants.{Opened, Residual, Missing, Forecast, Variance, Saved, Rejected, Ended}
+use Rattle.replies.specs.declared.Reply.the-variants.{Opened, Residual, Missing, Forecast, Variance, Saved, Rejected, Ended, Silent}
 use Rattle.lines.specs.declared.Line.the-variants as line-of
 use Rattle.replies.specs.declared.Fields.{Fields}
 use Rattle.lines.proofs.DigitLaws.{length-decimal, count-most, length-hexadecimal}
 
-pub length-fields : (saved : List ℕ) (f : Fields)
+pub length-fields : (saved : List ℕ) (f : Fields) → eqb (f .letter) noLetter ≡ false
     → length (fieldsBytes saved f) ≡ 2 + length (numberBytes saved (f .first)) + length (numberBytes saved (f .second)) + length (numberBytes saved (f .third))
 unfolding fieldsBytes
-length-fields saved f = simp length-append (omega arith)
+length-fields saved f e = rw e (simp length-append (omega arith))
+
+-- an answer without a letter has no line
+pub none : (saved : List ℕ) (f : Fields) → eqb (f .letter) noLetter ≡ true → fieldsBytes saved f ≡ []
+unfolding fieldsBytes
+none saved f e = rw e
+
+silent : (saved : List ℕ) → length (fieldsBytes saved (fieldsOf Silent)) ≡ 0
+silent saved = ap length (none saved (fieldsOf Silent) refl)
 
 -- ---- what writing a line gives: no room, or room enough
 module _ (r : Reply) (saved d : List ℕ) where
@@ -58,20 +66,22 @@ savedCount (Variance h high low) = 0
 savedCount (Saved n) = n
 savedCount (Rejected code offset) = 0
 savedCount (Ended count) = 0
+savedCount Silent = 0
 
 -- a line of numbers has no more than 65 bytes, as many as that of a save of 31
 pub line-most : (r : Reply) (saved : List ℕ) (most : ℕ) → 31 ≤ most → savedCount r ≤ most → length (lineOf r saved) ≤ 3 + 2 * most
 unfolding lineOf
-line-most (Opened model m) saved most b h = omega (arith, length-fields saved (fieldsOf (Opened model m)), unsigned-most model, unsigned-most m)
-line-most (Residual e) saved most b h = omega (arith, length-fields saved (fieldsOf (Residual e)), signed-most e)
-line-most Missing saved most b h = omega (arith, length-fields saved (fieldsOf Missing))
-line-most (Forecast j v) saved most b h = omega (arith, length-fields saved (fieldsOf (Forecast j v)), unsigned-most j, signed-most v)
+line-most (Opened model m) saved most b h = omega (arith, length-fields saved (fieldsOf (Opened model m)) refl, unsigned-most model, unsigned-most m)
+line-most (Residual e) saved most b h = omega (arith, length-fields saved (fieldsOf (Residual e)) refl, signed-most e)
+line-most Missing saved most b h = omega (arith, length-fields saved (fieldsOf Missing) refl)
+line-most (Forecast j v) saved most b h = omega (arith, length-fields saved (fieldsOf (Forecast j v)) refl, unsigned-most j, signed-most v)
 line-most (Variance j high low) saved most b h =
-    omega (arith, length-fields saved (fieldsOf (Variance j high low)), unsigned-most j, unsigned-most high, unsigned-most low)
-line-most (Saved n) saved most b h = omega (arith, length-fields saved (fieldsOf (Saved n)), length-hexadecimal (take n saved), take-most n saved)
+    omega (arith, length-fields saved (fieldsOf (Variance j high low)) refl, unsigned-most j, unsigned-most high, unsigned-most low)
+line-most (Saved n) saved most b h = omega (arith, length-fields saved (fieldsOf (Saved n)) refl, length-hexadecimal (take n saved), take-most n saved)
 line-most (Rejected code offset) saved most b h =
-    omega (arith, length-fields saved (fieldsOf (Rejected code offset)), unsigned-most code, unsigned-most offset)
-line-most (Ended count) saved most b h = omega (arith, length-fields saved (fieldsOf (Ended count)), unsigned-most count)
+    omega (arith, length-fields saved (fieldsOf (Rejected code offset)) refl, unsigned-most code, unsigned-most offset)
+line-most (Ended count) saved most b h = omega (arith, length-fields saved (fieldsOf (Ended count)) refl, unsigned-most count)
+line-most Silent saved most b h = omega (arith, silent saved)
 
 -- a line that is written has room
 pub written-room : (r : Reply) (saved : List ℕ) (room n : ℕ) → writeLine r saved room ≡ line-of.Bytes n → n ≤ room

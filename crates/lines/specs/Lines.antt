@@ -8,7 +8,7 @@ use lib.IntN.{ℤ, pos, negsuc}
 use lib.ListN.{length, take}
 use lib.Seq.{sets}
 use Rattle.state.specs.Rejections.{unless, short-buffer}
-use Rattle.replies.specs.Replies.{fieldsOf}
+use Rattle.replies.specs.Replies.{noLetter, fieldsOf}
 use Rattle.replies.specs.declared.Reply.{Reply}
 use Rattle.lines.specs.declared.Line.{Line}
 use Rattle.lines.specs.declared.Line.the-variants as line-of
@@ -61,10 +61,11 @@ numberBytes saved (Unsigned n) = blank ∷ decimal n
 numberBytes saved (Signed z) = blank ∷ signedDecimal z
 numberBytes saved (Hexadecimal n) = blank ∷ hexadecimal (take n saved)
 
--- a letter, up to three numbers, and the end of the line
+-- a letter, up to three numbers, and the end of the line; nothing where there is no letter
 unfoldable pub fieldsBytes : List ℕ → Fields → List ℕ
 fieldsBytes saved f =
-    f .letter ∷ (numberBytes saved (f .first) ++ (numberBytes saved (f .second) ++ (numberBytes saved (f .third) ++ (newline ∷ []))))
+    cond (eqb (f .letter) noLetter) []
+    (f .letter ∷ (numberBytes saved (f .first) ++ (numberBytes saved (f .second) ++ (numberBytes saved (f .third) ++ (newline ∷ [])))))
 
 -- the line of a reply, with the bytes that were saved
 unfoldable pub lineOf : Reply → List ℕ → List ℕ

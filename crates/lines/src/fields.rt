@@ -1,4 +1,4 @@
-// A line's bytes, a letter and up to three numbers, at the start of a lent buffer.
+// A line's bytes, a letter and up to three numbers, at the start of a lent buffer; none where there is no letter.
 use super::digits::digit_count;
 use super::digits::magnitude;
 use super::digits::put_byte;
@@ -6,6 +6,7 @@ use super::digits::put_decimal;
 use super::digits::put_hexadecimal;
 use super::digits::put_signed;
 use replies::Fields;
+use replies::NO_LETTER;
 use replies::Number;
 ghost use mathlib.Core.Path.{_≡_};
 ghost use Prim.Native.Nat.{_+_, _≤_};
@@ -44,6 +45,9 @@ fn number_length(x: Number, saved: &[u8]) -> usize
 pub fn fields_length(f: Fields, saved: &[u8]) -> usize
     ensures { λ r. ⌜ r ≡ length (fieldsBytes (now (saved .entry)) f) ⌝ }
 {
+    if f.letter == NO_LETTER {
+        return 0;
+    }
     let first = f.first;
     let second = f.second;
     let third = f.third;
@@ -76,6 +80,9 @@ pub fn put_fields(d: &mut [u8], f: Fields, saved: &[u8])
     requires { ⌜ length (fieldsBytes (now saved) f) ≤ length (now d) ⌝ }
     ensures { λ _. ⌜ now (d .exit) ≡ sets (now (d .entry)) 0 (fieldsBytes (now (saved .entry)) f) ⌝ }
 {
+    if f.letter == NO_LETTER {
+        return;
+    }
     let first = f.first;
     let second = f.second;
     let third = f.third;

@@ -1,5 +1,5 @@
--- Document 01, "Grains and states": the model byte, and the season lengths and parameters that a model allows; document 02, W-201: the usual region.
-use Prim.Native.Nat.{ℕ, _+_, _*_, _/_, _%_}
+-- Document 01, "Grains and states": the model byte, and the season lengths and parameters that a model allows; document 02, W-201: the usual region, and W-211: the rounding rule.
+use Prim.Native.Nat.{ℕ, _+_, _*_, _-_, _/_, _%_}
 use mathlib.Core.Bool.{Bool, cond, not, _&&_, _||_}
 use lib.Dec.{eqb, leb}
 
@@ -17,13 +17,33 @@ hasTrend model = not (eqb (trendOf model) 0)
 abbrev pub hasSeason : ℕ → Bool
 hasSeason model = not (eqb (seasonOf model) 0)
 
+-- bit 6 is the rounding rule: 0 for ties up, 1 for ties to even
+abbrev pub roundingOf : ℕ → ℕ
+roundingOf model = model / 64 % 2
+
+abbrev pub tiesToEven : ℕ → Bool
+tiesToEven model = not (eqb (roundingOf model) 0)
+
+-- the byte with bit 6 clear, and with it set
+abbrev pub toUp : ℕ → ℕ
+toUp model = model - roundingOf model * 64
+
+abbrev pub toEven : ℕ → ℕ
+toEven model = toUp model + 64
+
 -- the byte put together from its parts
 abbrev pub modelByte : ℕ → ℕ
-modelByte model = seasonOf model * 4 + trendOf model
+modelByte model = roundingOf model * 64 + seasonOf model * 4 + trendOf model
 
--- valid bytes are 0, 1, 2, 4, 5, 6
+-- valid bytes are 0, 1, 2, 4, 5, 6, with bit 6 set or clear
 abbrev pub validModel : ℕ → Bool
-validModel model = eqb model 0 || eqb model 1 || eqb model 2 || eqb model 4 || eqb model 5 || eqb model 6
+validModel model =
+    eqb (toUp model) 0
+    || eqb (toUp model) 1
+    || eqb (toUp model) 2
+    || eqb (toUp model) 4
+    || eqb (toUp model) 5
+    || eqb (toUp model) 6
 
 -- the season length m: 0 without season, otherwise 2 to 48
 abbrev pub periodOk : ℕ → ℕ → Bool

@@ -2,7 +2,7 @@
 // document 01, "Grains and states".
 ghost use mathlib.Core.Path.{_≡_};
 ghost use mathlib.Core.Bool.{cond};
-ghost use Rattle.models.specs.Models.{trendOf, seasonOf, hasTrend, hasSeason, modelByte, validModel, periodOk, gainOk, dampingOk, parametersOk, usualGains};
+ghost use Rattle.models.specs.Models.{trendOf, seasonOf, hasTrend, hasSeason, roundingOf, tiesToEven, toEven, modelByte, validModel, periodOk, gainOk, dampingOk, parametersOk, usualGains};
 
 // 1 in the 65,536ths that the parameters are counted in: the greatest of each.
 pub const ONE: u32 = 65536;
@@ -34,17 +34,38 @@ pub fn has_season(model: u8) -> bool
     season_of(model) != 0
 }
 
+pub fn rounding_of(model: u8) -> u8
+    ensures { λ r. ⌜ r ≡ roundingOf model ⌝ }
+{
+    (model >> 6) & 1
+}
+
+// The rounding rule: whether ties go to the even number, else up.
+pub fn ties_to_even(model: u8) -> bool
+    ensures { λ r. ⌜ r ≡ tiesToEven model ⌝ }
+{
+    rounding_of(model) != 0
+}
+
+// The byte with the rule set.
+pub fn to_even(model: u8) -> u8
+    ensures { λ r. ⌜ r ≡ toEven model ⌝ }
+{
+    model | 0x40
+}
+
+// No bit but those of the trend, the season and the rounding rule, and no trend 3.
 pub fn model_ok(model: u8) -> bool
     ensures { λ r. ⌜ r ≡ validModel model ⌝ }
 {
-    (model >> 3 == 0) & (trend_of(model) != 3)
+    (model & 0xb8 == 0) & (trend_of(model) != 3)
 }
 
 // The byte put together from its parts, as saving writes it.
 pub fn model_byte(model: u8) -> u8
     ensures { λ r. ⌜ r ≡ modelByte model ⌝ }
 {
-    trend_of(model) | (season_of(model) << 2)
+    trend_of(model) | (season_of(model) << 2) | (rounding_of(model) << 6)
 }
 
 // One of two, so that the checks have no branch of their own.

@@ -34,6 +34,10 @@ letterX = 88
 abbrev pub letterN : ℕ
 letterN = 78
 
+-- no letter: an answer without a line (document 02, W-211)
+abbrev pub noLetter : ℕ
+noLetter = 0
+
 -- each case of a reply by the letter and the values that the paper gives it
 abbrev pub fieldsOf : Reply → Fields
 fieldsOf (reply-of.Opened model m) = fields letterO (Unsigned model) (Unsigned m) Nothing
@@ -44,3 +48,4 @@ fieldsOf (reply-of.Variance h high low) = fields letterV (Unsigned h) (Unsigned 
 fieldsOf (reply-of.Saved n) = fields letterS (Hexadecimal n) Nothing Nothing
 fieldsOf (reply-of.Rejected code offset) = fields letterX (Unsigned code) (Unsigned offset) Nothing
 fieldsOf (reply-of.Ended count) = fields letterN (Unsigned count) Nothing Nothing
+fieldsOf reply-of.Silent = fields noLetter Nothing Nothing Nothing

@@ -1,4 +1,4 @@
-// The answers to a stream's commands, each as a letter and up to three numbers: document 01, "The program's lines".
+// The answers to a stream's commands, each as a letter and up to three numbers or without a line: document 01, "The program's lines".
 ghost use mathlib.Core.Path.{_≡_};
 ghost use Rattle.replies.specs.Replies.{fieldsOf};
 
@@ -20,7 +20,12 @@ pub enum Reply {
     Rejected { code: u8, offset: usize },
     // N
     Ended(u64),
+    // No line: the answer to an accepted command that prints none (document 02, W-211: 14).
+    Silent,
 }
+
+// In the place of the letter of an answer that has no line.
+pub const NO_LETTER: u8 = 0;
 
 // A number of a line, with the blank before it.
 pub enum Number {
@@ -79,5 +84,6 @@ pub fn fields_of(r: Reply) -> Fields
         Reply::Saved(n) => one(b'S', Number::Hexadecimal(n)),
         Reply::Rejected { code, offset } => two(b'X', code as u64, Number::Unsigned(offset as u64)),
         Reply::Ended(count) => one(b'N', Number::Unsigned(count)),
+        Reply::Silent => one(NO_LETTER, Number::Nothing),
     }
 }

@@ -9,7 +9,9 @@ use lib.IntN.{ℤ}
 use lib.ListN.{length}
 use Rattle.state.specs.Rejections.{accepting}
 use Rattle.state.specs.States.{check}
+use Rattle.state.specs.Switching.{switched, switchToEven}
 use Rattle.state.specs.declared.State.{State}
+use Rattle.state.proofs.Switches.{checks-kept}
 use Rattle.ets.specs.Steps.{stepCode, missingCode, residualOf, afterReading, afterMissing, step, missing}
 use Rattle.forecasts.specs.Forecasts.{forecastCode, forecastOf}
 use Rattle.ets.proofs.Kept.{cells-kept, reading-kept, missing-kept}
@@ -18,8 +20,8 @@ use Rattle.snapshot.specs.Slices.{inPlaceCode}
 use Rattle.snapshot.proofs.Accepting.{one-snapshot}
 use Rattle.snapshot.proofs.Decoded.{accepted-passes, length-decoded}
 use Rattle.saving.specs.Encoding.{encoded}
-use Rattle.saving.specs.InPlace.{rejection, bytesAfter, numberAfter, inPlaceStepCode, inPlaceStepBytes, inPlaceResidual, inPlaceMissingCode, inPlaceMissingBytes, inPlaceForecastCode, inPlaceForecast}
-use Rattle.saving.specs.Promises.{StepInPlace, MissingInPlace, ForecastInPlace, InPlaceIsDirect}
+use Rattle.saving.specs.InPlace.{rejection, bytesAfter, numberAfter, inPlaceStepCode, inPlaceStepBytes, inPlaceResidual, inPlaceMissingCode, inPlaceMissingBytes, inPlaceSwitchCode, inPlaceSwitchBytes, inPlaceForecastCode, inPlaceForecast}
+use Rattle.saving.specs.Promises.{StepInPlace, MissingInPlace, SwitchInPlace, ForecastInPlace, InPlaceIsDirect}
 use Rattle.saving.proofs.RoundTrip.{read-back, whole}
 
 -- ---- the snapshot of a state that the checks let pass, lent by itself
@@ -71,6 +73,15 @@ missing-direct s full ok =
       holds = state-is s full ok missingCode (λ t. afterMissing t) (λ z. (missing-kept s z, full));
     }
 
+switch-direct : (s : State) → length (s .seasonal) ≡ 48 → check s ≡ 0 → SwitchInPlace s
+unfolding inPlaceSwitchCode inPlaceSwitchBytes switchToEven
+switch-direct s full ok =
+    record {
+      code = code-is s full ok check;
+      bytes = bytes-are s full ok check (λ t. switched t);
+      holds = state-is s full ok check (λ t. switched t) (λ z. (checks-kept s ∙ z, full));
+    }
+
 forecast-direct : (s : State) → length (s .seasonal) ≡ 48 → check s ≡ 0 → (h : ℕ) → ForecastInPlace s h
 unfolding inPlaceForecastCode inPlaceForecast
 forecast-direct s full ok h =
@@ -82,5 +93,6 @@ in-place-is-direct =
       slice = λ d b z. let o = one-snapshot d z in (whole d b (o .0) (o .1), accepted-passes d (o .0), length-decoded d);
       step = step-direct;
       missing = missing-direct;
+      switch = switch-direct;
       forecast = forecast-direct;
     }

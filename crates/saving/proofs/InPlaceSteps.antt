@@ -12,7 +12,7 @@ use lib.ListN.{length, getD, set}
 use Rattle.integers.specs.Bounds.{Within}
 use Rattle.integers.proofs.Bounds.{within-zero}
 use Rattle.state.specs.Fixed.{maxCount}
-use Rattle.models.specs.Models.{hasSeason}
+use Rattle.models.specs.Models.{hasSeason, tiesToEven}
 use Rattle.state.specs.States.{check, indexOk, countOk}
 use Rattle.state.specs.declared.State.{State}
 use Rattle.state.proofs.Passing.{bounded, no-season, with-season}
@@ -66,6 +66,7 @@ unfolding decoded
 held d b z =
     let o = one-snapshot d z in
     record {
+      even = refl;
       period = refl;
       index = refl;
       numbers = numbers-are d (o .0);
@@ -163,10 +164,10 @@ pub record Direct (s : State) (y : ℤ) (u : Update) : Type 0 where
   pub count : s .count < maxCount
 
 module _ (s : State) (ok : check s ≡ 0) (y : ℤ) where
-  pub direct-code : update (numbersOf s) y .code ≡ stepCode s y
+  pub direct-code : update (tiesToEven (s .model)) (numbersOf s) y .code ≡ stepCode s y
   direct-code = update-code s ok y
 
-  pub direct : stepCode s y ≡ 0 → Direct s y (update (numbersOf s) y)
+  pub direct : stepCode s y ≡ 0 → Direct s y (update (tiesToEven (s .model)) (numbersOf s) y)
   unfolding corrections
   direct z =
       let u = update-is s ok y z in
@@ -186,7 +187,7 @@ module _ (d : List ℕ) (x : Checked) (h : Held d x) where
   pub room-is : Room d (x .period) (x .index)
   room-is = rw (h .period, h .index) (h .room)
 
-  pub step-stored : (y : ℤ) (u : Update) → u ≡ update (numbersOf (decoded d)) y → stepCode (decoded d) y ≡ 0 → stored d (x .period) (x .index) (x .numbers .count) u ≡ encoded (afterReading (decoded d) y)
+  pub step-stored : (y : ℤ) (u : Update) → u ≡ update (tiesToEven (decoded d .model)) (numbersOf (decoded d)) y → stepCode (decoded d) y ≡ 0 → stored d (x .period) (x .index) (x .numbers .count) u ≡ encoded (afterReading (decoded d) y)
   step-stored y u e z =
       let s = decoded d in
       let k = direct s (h .passes) y z in
@@ -194,7 +195,7 @@ module _ (d : List ℕ) (x : Checked) (h : Held d x) where
       (ap (λ (l : List ℕ). stored l (s .period) (s .index) (s .count) u) (sym (h .whole))
       ∙ step-written s (h .passes) (length-decoded d) (residualOf s y) u (ap (λ (v : Update). v .level) e ∙ k .level) (ap (λ (v : Update). v .trend) e ∙ k .trend) (ap (λ (v : Update). v .season) e ∙ k .season))
 
-  pub missing-stored : (u : Update) → u ≡ updateMissing (numbersOf (decoded d)) → missingCode (decoded d) ≡ 0 → advancedOn d (x .period) (x .index) (x .numbers .count) (u .level) (u .trend) ≡ encoded (afterMissing (decoded d))
+  pub missing-stored : (u : Update) → u ≡ updateMissing (tiesToEven (decoded d .model)) (numbersOf (decoded d)) → missingCode (decoded d) ≡ 0 → advancedOn d (x .period) (x .index) (x .numbers .count) (u .level) (u .trend) ≡ encoded (afterMissing (decoded d))
   unfolding advance
   missing-stored u e z =
       let s = decoded d in

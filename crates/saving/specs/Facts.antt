@@ -6,6 +6,7 @@ use mathlib.Core.List.{List}
 use lib.Dec.{eqb}
 use lib.IntN.{ℤ, pos}
 use lib.Seq.{sets}
+use Rattle.models.specs.Models.{tiesToEven}
 use Rattle.state.specs.States.{check}
 use Rattle.ets.specs.Steps.{nextIndex}
 use Rattle.ets.specs.Updates.{numbersOf}
@@ -23,6 +24,7 @@ aheadIn s m p h = cond (eqb m 0 || eqb h 0) (pos 0) (seasonIn s ((p + h - 1) % m
 
 -- what a call in place goes by is the state that its slice holds; that state passes its checks, and its snapshot is the slice
 pub record Held (d : List ℕ) (x : Checked) : Type 0 where
+  pub even : x .even ≡ tiesToEven (decoded d .model)
   pub period : x .period ≡ decoded d .period
   pub index : x .index ≡ decoded d .index
   pub numbers : x .numbers ≡ numbersOf (decoded d)

@@ -3,6 +3,8 @@ use Prim.Native.Nat.{ℕ}
 use mathlib.Core.List.{List}
 use lib.IntN.{ℤ}
 use Rattle.state.specs.Rejections.{_then_, accepting}
+use Rattle.state.specs.States.{check}
+use Rattle.state.specs.Switching.{switched}
 use Rattle.state.specs.declared.State.{State}
 use Rattle.ets.specs.Steps.{stepCode, missingCode, residualOf, afterReading, afterMissing}
 use Rattle.forecasts.specs.Forecasts.{forecastCode, forecastOf}
@@ -36,6 +38,13 @@ inPlaceMissingCode d = rejection missingCode d
 
 unfoldable pub inPlaceMissingBytes : List ℕ → List ℕ
 inPlaceMissingBytes d = bytesAfter missingCode (λ (s : State). afterMissing s) d
+
+-- a switch to ties to even (document 02, W-211)
+unfoldable pub inPlaceSwitchCode : List ℕ → ℕ
+inPlaceSwitchCode d = rejection check d
+
+unfoldable pub inPlaceSwitchBytes : List ℕ → List ℕ
+inPlaceSwitchBytes d = bytesAfter check (λ (s : State). switched s) d
 
 -- a forecast
 unfoldable pub inPlaceForecastCode : List ℕ → ℕ → ℕ

@@ -8,6 +8,7 @@ use lib.ListN.{length, take, drop, set}
 use Rattle.state.specs.Rejections.{accepting}
 use Rattle.state.specs.States.{check}
 use Rattle.state.specs.Regions.{openedBy, isUsual, plainCheck}
+use Rattle.state.specs.Switching.{switchToEven}
 use Rattle.state.specs.declared.State.{State}
 use Rattle.state.specs.declared.Outcome.the-variants as outcome-of
 use Rattle.ets.specs.Steps.{stepCode, residualOf, missingCode, step, missing}
@@ -19,7 +20,7 @@ use Rattle.snapshot.specs.Snapshots.{openCode, openOffset, decoded, read, restO
 use Rattle.snapshot.specs.Slices.{inPlaceCode}
 use Rattle.saving.specs.Encoding.{encoded}
 use Rattle.saving.specs.Saving.{save, savedBytes}
-use Rattle.saving.specs.InPlace.{inPlaceStepCode, inPlaceStepBytes, inPlaceResidual, inPlaceMissingCode, inPlaceMissingBytes, inPlaceForecastCode, inPlaceForecast}
+use Rattle.saving.specs.InPlace.{inPlaceStepCode, inPlaceStepBytes, inPlaceResidual, inPlaceMissingCode, inPlaceMissingBytes, inPlaceSwitchCode, inPlaceSwitchBytes, inPlaceForecastCode, inPlaceForecast}
 
 -- a state that passes is saved into any buffer with room; what was saved is read as the state, and the rest is what followed it
 pub record ReadBack (s : State) (d : List ℕ) : Type 0 where
@@ -58,6 +59,11 @@ pub record MissingInPlace (s : State) : Type 0 where
   pub bytes : inPlaceMissingBytes (encoded s) ≡ encoded (missing s .state)
   pub holds : decoded (inPlaceMissingBytes (encoded s)) ≡ missing s .state
 
+pub record SwitchInPlace (s : State) : Type 0 where
+  pub code : inPlaceSwitchCode (encoded s) ≡ check s
+  pub bytes : inPlaceSwitchBytes (encoded s) ≡ encoded (switchToEven s .state)
+  pub holds : decoded (inPlaceSwitchBytes (encoded s)) ≡ switchToEven s .state
+
 pub record ForecastInPlace (s : State) (h : ℕ) : Type 0 where
   pub code : inPlaceForecastCode (encoded s) h ≡ forecastCode s h
   pub number : (old : ℤ) → inPlaceForecast (encoded s) h old ≡ accepting (forecastCode s h) (forecastOf s h) (λ (n : ℕ). old)
@@ -67,4 +73,5 @@ pub record InPlaceIsDirect : Type 0 where
   pub slice : (d : List ℕ) → AreBytes d → inPlaceCode d ≡ 0 → (encoded (decoded d) ≡ d) × (check (decoded d) ≡ 0) × (length (decoded d .seasonal) ≡ 48)
   pub step : (s : State) → length (s .seasonal) ≡ 48 → check s ≡ 0 → (y : ℤ) → StepInPlace s y
   pub missing : (s : State) → length (s .seasonal) ≡ 48 → check s ≡ 0 → MissingInPlace s
+  pub switch : (s : State) → length (s .seasonal) ≡ 48 → check s ≡ 0 → SwitchInPlace s
   pub forecast : (s : State) → length (s .seasonal) ≡ 48 → check s ≡ 0 → (h : ℕ) → ForecastInPlace s h

@@ -9,6 +9,8 @@ use ets::next_index;
 use ets::updates::update;
 use ets::updates::update_missing;
 use forecasts::forecast_from;
+use models::to_even;
+use snapshot::layout::MODEL_BYTE_AT;
 use snapshot::slices::opened;
 use snapshot::slices::season_value;
 use state::Answer;
@@ -16,7 +18,7 @@ ghost use mathlib.Core.Path.{_≡_};
 ghost use Prim.Native.Nat.{_+_, _<_};
 ghost use Rattle.state.specs.Fixed.{maxCount};
 ghost use Rattle.snapshot.specs.Facts.{Room};
-ghost use Rattle.saving.specs.InPlace.{inPlaceStepCode, inPlaceStepBytes, inPlaceResidual, inPlaceMissingCode, inPlaceMissingBytes, inPlaceForecastCode, inPlaceForecast};
+ghost use Rattle.saving.specs.InPlace.{inPlaceStepCode, inPlaceStepBytes, inPlaceResidual, inPlaceMissingCode, inPlaceMissingBytes, inPlaceSwitchCode, inPlaceSwitchBytes, inPlaceForecastCode, inPlaceForecast};
 ghost use Rattle.saving.specs.Facts.{aheadIn, movedOn, advancedOn, seasonPut, stored};
 
 // The seasonal index moves on and the count rises.
@@ -67,7 +69,7 @@ pub fn step(snapshot: &mut [u8], reading: i32, residual: &mut i64) -> u8
         return code;
     }
     let n = x.numbers;
-    let u = update(n, reading);
+    let u = update(x.even, n, reading);
     let rejection = u.code;
     if rejection != 0 {
         return rejection;
@@ -89,12 +91,26 @@ pub fn missing(snapshot: &mut [u8]) -> u8
         return code;
     }
     let n = x.numbers;
-    let u = update_missing(n);
+    let u = update_missing(x.even, n);
     let rejection = u.code;
     if rejection != 0 {
         return rejection;
     }
     advance(snapshot, x.period, x.index, n.count, u.level, u.trend);
+    0
+}
+
+// A switch to ties to even: an accepted one sets bit 6 of the model byte, and no other byte changes.
+pub fn switch_to_even(snapshot: &mut [u8]) -> u8
+    ensures code { λ r. ⌜ r ≡ inPlaceSwitchCode (now (snapshot .entry)) ⌝ }
+    ensures bytes { λ _. ⌜ now (snapshot .exit) ≡ inPlaceSwitchBytes (now (snapshot .entry)) ⌝ }
+{
+    let x = opened(snapshot);
+    let code = x.code;
+    if code != 0 {
+        return code;
+    }
+    snapshot[MODEL_BYTE_AT] = to_even(snapshot[MODEL_BYTE_AT]);
     0
 }
 
@@ -125,7 +141,7 @@ pub fn forecast(snapshot: &[u8], horizon: u32, value: &mut i64) -> u8
     }
     let n = x.numbers;
     let season = season_ahead(snapshot, x.period, x.index, horizon);
-    match forecast_from(n.level, n.phi, n.trend, season, horizon) {
+    match forecast_from(x.even, n.level, n.phi, n.trend, season, horizon) {
         Answer::Rejected(k) => k,
         Answer::Accepted(v) => {
             *value = v;

@@ -1,4 +1,4 @@
--- Document 01, "Commands", and document 02, W-201 (18): each command's first byte, its length with its operands, and whether only a snapshot (the paper's group) holds it.
+-- Document 01, "Commands", and document 02, W-201 (18) and W-211 (14): each command's first byte, its length with its operands, and whether only a snapshot (the paper's group) holds it.
 use Prim.Native.Nat.{ℕ}
 use mathlib.Core.Bool.{Bool, true, false, cond, not, _||_}
 use mathlib.Core.List.{List, [], _∷_}
@@ -37,6 +37,7 @@ commands =
     ∷ command 0x11 levelLength true
     ∷ command 0x12 seasonLength true
     ∷ command 0x13 positionLength true
+    ∷ command 0x14 1 false
     ∷ command 0x18 modelLength false
     ∷ command 0x20 5 false
     ∷ command 0x21 1 false

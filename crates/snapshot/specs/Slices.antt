@@ -1,16 +1,17 @@
 -- Document 01, "Commands": a lent slice that holds one snapshot (the paper's group) and nothing after it.
 use Prim.Native.Nat.{ℕ, _+_}
-use mathlib.Core.Bool.{cond}
+use mathlib.Core.Bool.{false, cond}
 use mathlib.Core.List.{List}
 use lib.Dec.{eqb, leb}
 use lib.IntN.{pos}
 use lib.ListN.{length}
 use Rattle.state.specs.Rejections.{unless, _then_, out-of-place, truncated, accepting, outcome, answer}
+use Rattle.models.specs.Models.{tiesToEven}
 use Rattle.state.specs.States.{noState}
 use Rattle.state.specs.declared.Answer.{Answer}
 use Rattle.ets.specs.declared.Numbers.{Numbers}
 use Rattle.snapshot.specs.CommandTable.{seasonLength}
-use Rattle.snapshot.specs.Layout.{seasonAt, periodIn, alphaIn, betaIn, gammaIn, phiIn, levelIn, trendIn, seasonIn, indexIn, countIn}
+use Rattle.snapshot.specs.Layout.{seasonAt, modelIn, periodIn, alphaIn, betaIn, gammaIn, phiIn, levelIn, trendIn, seasonIn, indexIn, countIn}
 use Rattle.snapshot.specs.Snapshots.{openCode, openOffset, decoded}
 use Rattle.snapshot.specs.declared.Checked.{Checked}
 use Rattle.snapshot.specs.declared.Opened.{Opened}
@@ -38,13 +39,14 @@ numbersIn s =
     }
 
 abbrev pub checkedIn : List ℕ → Checked
-checkedIn s = record { code = 0; period = periodIn s; index = indexIn s (periodIn s); numbers = numbersIn s }
+checkedIn s = record { code = 0; even = tiesToEven (modelIn s); period = periodIn s; index = indexIn s (periodIn s); numbers = numbersIn s }
 
 -- what stands beside a rejection
 abbrev pub notOpened : ℕ → Checked
 notOpened code =
     record {
       code = code;
+      even = false;
       period = 0;
       index = 0;
       numbers = record { alpha = 0; beta = 0; gamma = 0; phi = 0; level = pos 0; trend = pos 0; season = pos 0; count = 0 };

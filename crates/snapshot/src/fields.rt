@@ -15,6 +15,7 @@ use super::layout::TREND_VALUE_AT;
 use super::layout::season_at;
 use super::table::opener;
 use ets::Numbers;
+use models::ties_to_even;
 use state::State;
 ghost use mathlib.Core.Path.{_≡_};
 ghost use mathlib.Core.Bool.{cond};
@@ -67,6 +68,7 @@ pub fn checked_at(s: &[u8]) -> Checked
     let index = s[at + 1];
     Checked {
         code: 0,
+        even: ties_to_even(s[MODEL_BYTE_AT]),
         period,
         index,
         numbers: Numbers {

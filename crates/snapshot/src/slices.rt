@@ -24,6 +24,7 @@ fn unopened(code: u8) -> Checked
 {
     Checked {
         code,
+        even: false,
         period: 0,
         index: 0,
         numbers: Numbers {

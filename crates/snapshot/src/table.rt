@@ -25,6 +25,7 @@ pub fn entry_of(b: u8) -> Entry
         0x11 => Entry(LEVEL_LENGTH, true),
         0x12 => Entry(SEASON_LENGTH, true),
         0x13 => Entry(POSITION_LENGTH, true),
+        0x14 => Entry(1, false),
         0x18 => Entry(MODEL_LENGTH, false),
         0x20 => Entry(5, false),
         0x21 => Entry(1, false),

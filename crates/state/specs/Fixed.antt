@@ -1,6 +1,6 @@
--- Document 01, "Grains and states" and R of "One step". Values are whole numbers of 1/65536 of a reading unit: the paper's grain, a fixed-point unit with 16 fraction bits.
-use Prim.Native.Nat.{ℕ}
-use mathlib.Core.Bool.{Bool, false, _&&_}
+-- Document 01, "Grains and states" and R of "One step", with the rounding rule of document 02, W-211. Values are whole numbers of 1/65536 of a reading unit: the paper's grain, a fixed-point unit with 16 fraction bits.
+use Prim.Native.Nat.{ℕ, _+_, _%_}
+use mathlib.Core.Bool.{Bool, true, false, _&&_}
 use lib.Dec.{eqb}
 use lib.IntN.{ℤ, pos, negsuc, negℤ, natAbs, _+ℤ_, _*ℤ_}
 use lib.Signed.{leZ, shrZ}
@@ -30,15 +30,17 @@ isZero (negsuc n) = false
 abbrev pub maxCount : ℕ
 maxCount = 281474976710656
 
--- R(v): the greatest whole number not above (v + 32768)/65536
-unfoldable pub R : ℤ → ℤ
-R v = shrZ (v +ℤ pos 32768) 65536
+-- R(v): v/65536 to the nearest whole number. A tie goes up: the greatest whole number not above (v + 32768)/65536; or (even) to the even number: one less is
+-- added where the greatest whole number not above v/65536 is even
+unfoldable pub R : Bool → ℤ → ℤ
+R false v = shrZ (v +ℤ pos 32768) 65536
+R true v = shrZ (v +ℤ pos (32767 + natAbs (shrZ v 65536) % 2)) 65536
 
 -- R(a × x), the share that a 65,536th parameter a gives of x: every use of R is one
-unfoldable pub share : ℕ → ℤ → ℤ
-share a x = R (pos a *ℤ x)
+unfoldable pub share : Bool → ℕ → ℤ → ℤ
+share even a x = R even (pos a *ℤ x)
 
 -- the share of a number that is not negative, as a natural number
-abbrev pub shareNat : ℕ → ℕ → ℕ
+abbrev pub shareNat : Bool → ℕ → ℕ → ℕ
 unfolding R share
-shareNat a x = natAbs (share a (pos x))
+shareNat even a x = natAbs (share even a (pos x))

@@ -4,3 +4,4 @@ pub mod States
 pub mod Valid
 pub mod Rounding
 pub mod Regions
+pub mod Switching

@@ -1,5 +1,6 @@
 // The forecaster's state by value and the checks of a state handed in: document 01, "Grains and states".
 pub mod checks;
+pub mod switching;
 
 ghost use mathlib.Core.Path.{_≡_};
 ghost use Rattle.state.specs.Rejections.{unless, _then_, outcomeCode};
@@ -98,6 +99,12 @@ pub enum Answer {
     Rejected(u8),
 }
 
+// The state that stands after a switch of its rounding rule.
+pub struct Switched {
+    pub state: State,
+    pub outcome: Outcome,
+}
+
 // A check: 0 where the test holds, else its rejection.
 pub fn unless(holds: bool, code: u8) -> u8
     ensures { λ r. ⌜ r ≡ unless holds code ⌝ }
@@ -127,7 +134,7 @@ pub fn region_laws()
     ensures { λ _. ⌜ RegionLaws ⌝ }
 {}
 
-// A promise: what R is.
+// A promise: what R is by each rounding rule.
 pub fn rounding_laws()
     ensures { λ _. ⌜ Rounding ⌝ }
 {}

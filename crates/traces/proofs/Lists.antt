@@ -8,7 +8,9 @@ use lib.IntN.{ℤ}
 use lib.ListN.{length, getD}
 use Rattle.state.specs.Rejections.{answerValue}
 use Rattle.state.specs.Fixed.{isSentinel}
+use Rattle.state.specs.Switching.{switched}
 use Rattle.state.specs.declared.State.{State}
+use Rattle.state.proofs.Switches.{checks-kept}
 use Rattle.ets.specs.Steps.{stepCode, missingCode, afterReading, afterMissing}
 use Rattle.ets.specs.Batches.{run, preceded, halted, takeCode, afterTake, batchCode, batchRun}
 use Rattle.forecasts.specs.Forecasts.{maxHorizon, forecastCode, forecastOf, forecast}
@@ -19,13 +21,13 @@ use Rattle.snapshot.specs.Slices.{inPlaceCode}
 use Rattle.snapshot.proofs.Accepting.{one-snapshot}
 use Rattle.snapshot.proofs.Decoded.{accepted-passes, length-decoded}
 use Rattle.saving.specs.Encoding.{encoded}
-use Rattle.saving.specs.InPlace.{inPlaceStepBytes, inPlaceMissingBytes}
+use Rattle.saving.specs.InPlace.{inPlaceStepBytes, inPlaceMissingBytes, inPlaceSwitchBytes}
 use Rattle.saving.proofs.InPlaceLaws.{in-place-is-direct}
 use Rattle.saving.proofs.RoundTrip.{whole}
-use Rattle.traces.specs.Calls.{followed, Reading, Missing, Forecast, InPlaceReading, InPlaceMissing, InPlaceForecast, horizon, Result, result}
+use Rattle.traces.specs.Calls.{followed, Reading, Missing, Switch, Forecast, InPlaceReading, InPlaceMissing, InPlaceSwitch, InPlaceForecast, horizon, Result, result}
 use Rattle.traces.specs.Laws.{filled, Passing, CallLaws, InPlaceLaws, Holds, SliceLaws}
 use Rattle.traces.proofs.Slices.{too-short}
-use Rattle.traces.proofs.Results.{by-code, Works, reads, misses, takes, forecasts-one, forecasts-all, works, cells-after, reading-code, missed-code, forecast-rejection, forecast-answer}
+use Rattle.traces.proofs.Results.{by-code, Works, reads, misses, switches, takes, forecasts-one, forecasts-all, works, cells-after, reading-code, missed-code, forecast-rejection, forecast-answer}
 
 -- ---- a state that passes stays one
 module _ (s : State) (w : Passing s) where
@@ -61,6 +63,8 @@ after-batch ys room s w =
 stays : (s : State) → Passing s → {r : Result} → Works s r → Passing (r .state)
 stays s w (reads y n f) = by-code (λ b. Passing (cond b (afterReading s y) s)) n (λ z. after-reading s w y (f z)) w
 stays s w (misses n f) = by-code (λ b. Passing (cond b (afterMissing s) s)) n (λ z. after-missing s w (f z)) w
+stays s w (switches n) =
+    by-code (λ b. Passing (cond b (switched s) s)) n (λ z. record { cells = w .cells; passes = checks-kept s ∙ w .passes }) w
 stays s w (takes ys room) = after-batch ys room s w
 stays s w (forecasts-one h n v f) = w
 stays s w (forecasts-all h n zs f) = w
@@ -68,6 +72,7 @@ stays s w (forecasts-all h n zs f) = w
 counted : (s : State) {r : Result} → Works s r → length (r .numbers) ≡ filled (r .event)
 counted s (reads y n f) = by-code (λ b. length {A = ℤ} (cond b [] []) ≡ 0) n (λ z. refl) refl
 counted s (misses n f) = by-code (λ b. length {A = ℤ} (cond b [] []) ≡ 0) n (λ z. refl) refl
+counted s (switches n) = refl
 counted s (takes ys room) = refl
 counted s (forecasts-one h n v f) = by-code (λ b. length (cond b (v ∷ []) []) ≡ cond b 1 0) n (λ z. refl) refl
 counted s (forecasts-all h n zs f) = by-code (λ b. length (cond b zs []) ≡ cond b h 0) n (λ z. ap length (f z) ∙ list-length s h) refl
@@ -89,6 +94,10 @@ module _ (s : State) (w : Passing s) where
   same-missing =
       rw (append-nil (encoded s), in-place-is-direct .missing s (w .cells) (w .passes) .holds, in-place-is-direct .missing s (w .cells) (w .passes) .code, missed-code s)
 
+  same-switch : result s (InPlaceSwitch (followed [])) ≡ result s Switch
+  unfolding result
+  same-switch = rw (append-nil (encoded s), in-place-is-direct .switch s (w .cells) (w .passes) .holds)
+
   same-forecast : (h : ℕ) (old : ℤ) → result s (InPlaceForecast (followed []) h old) ≡ result s (Forecast maxHorizon h)
   unfolding result
   same-forecast h old =
@@ -96,7 +105,7 @@ module _ (s : State) (w : Passing s) where
       (ap (λ (zs : List ℤ). record { state = s; event = horizon h (eqb (forecastCode s h) 0); numbers = zs }) (by-code (λ b. cond b (cond b (forecastOf s h) old ∷ []) [] ≡ cond b (answerValue (forecast s h) ∷ []) []) (forecastCode s h) (λ z. ap (λ (v : ℤ). v ∷ []) (sym (forecast-answer maxHorizon s h z))) refl))
 
 pub in-place-laws : InPlaceLaws
-in-place-laws s w = record { reading = same-reading s w; missing = same-missing s w; forecast = same-forecast s w }
+in-place-laws s w = record { reading = same-reading s w; missing = same-missing s w; switch = same-switch s w; forecast = same-forecast s w }
 
 -- ---- slices
 opening : (d : List ℕ) → ((i : ℕ) → getD d i 0 < 256) → inPlaceCode d ≡ 0 → Holds d (decoded d)
@@ -127,5 +136,13 @@ module _ (d : List ℕ) (s : State) (w : Holds d s) where
         state = call-laws s (w .state) (InPlaceMissing (followed [])) .stays;
       }
 
+  switch : Holds (inPlaceSwitchBytes d) (result s (InPlaceSwitch (followed [])) .state)
+  unfolding result
+  switch =
+      record {
+        bytes = rw (d-is, append-nil (encoded s), in-place-is-direct .switch s (w .state .cells) (w .state .passes) .holds) (in-place-is-direct .switch s (w .state .cells) (w .state .passes) .bytes ∙ sym (append-nil (encoded _)));
+        state = call-laws s (w .state) (InPlaceSwitch (followed [])) .stays;
+      }
+
 pub slice-laws : SliceLaws
-slice-laws = record { opening = opening; reading = reading; missing = missing; short = too-short }
+slice-laws = record { opening = opening; reading = reading; missing = missing; switch = switch; short = too-short }

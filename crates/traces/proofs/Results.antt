@@ -1,4 +1,4 @@
--- How a call works on a state that passes its checks, handed in directly or in place: as a reading, a missing one, a batch, or a forecast for one horizon or for all.
+-- How a call works on a state that passes its checks, handed in directly or in place: as a reading, a missing one, a switch, a batch, or a forecast for one horizon or for all.
 use Prim.Native.Nat.{ℕ}
 use mathlib.Core.Path.{_≡_, refl, sym, _∙_, ap}
 use mathlib.Core.Bool.{Bool, true, false, cond}
@@ -10,7 +10,9 @@ use lib.Seq.{take-at}
 use borrow.Author.Tests.{eqb-true}
 use Rattle.state.specs.Rejections.{_then_, outcomeCode, answerCode, answerValue}
 use Rattle.state.specs.States.{check}
+use Rattle.state.specs.Switching.{switched, switchToEven}
 use Rattle.state.specs.declared.State.{State}
+use Rattle.state.proofs.Switches.{checks-kept}
 use Rattle.state.proofs.Answers.{outcome-code, answer-code}
 use Rattle.state.proofs.Tests.{then-zero}
 use Rattle.ets.specs.Steps.{stepCode, missingCode, residualOf, afterReading, afterMissing, step, missing}
@@ -21,8 +23,8 @@ use Rattle.ets.proofs.Kept.{cells-kept, reading-kept, missing-kept}
 use Rattle.snapshot.specs.Snapshots.{decoded}
 use Rattle.snapshot.specs.Slices.{inPlaceCode}
 use Rattle.saving.specs.Encoding.{encoded}
-use Rattle.saving.specs.InPlace.{inPlaceStepCode, inPlaceStepBytes, inPlaceMissingCode, inPlaceMissingBytes, inPlaceForecastCode, inPlaceForecast}
-use Rattle.traces.specs.Calls.{Slice, sliceOf, stateIn, Call, Reading, Missing, Batch, Forecast, Forecasts, InPlaceReading, InPlaceMissing, InPlaceForecast, observed, unobserved, series, horizon, horizons, Result, answered, result}
+use Rattle.saving.specs.InPlace.{inPlaceStepCode, inPlaceStepBytes, inPlaceMissingCode, inPlaceMissingBytes, inPlaceSwitchBytes, inPlaceForecastCode, inPlaceForecast}
+use Rattle.traces.specs.Calls.{Slice, sliceOf, stateIn, Call, Reading, Missing, Switch, Batch, Forecast, Forecasts, InPlaceReading, InPlaceMissing, InPlaceSwitch, InPlaceForecast, observed, unobserved, untold, series, horizon, horizons, Result, answered, result}
 use Rattle.traces.proofs.Slices.{accepted-holds, untouched-holds, rewritten-holds}
 
 -- n is a call's rejection, or 0
@@ -36,6 +38,7 @@ by-code P n f g = go (eqb n 0) refl
 pub data Works (s : State) : Result → Type 0 where
   reads : (y : ℤ) (n : ℕ) → (n ≡ 0 → stepCode s y ≡ 0) → Works s (answered (cond (eqb n 0) (afterReading s y) s) (observed y) n [])
   misses : (n : ℕ) → (n ≡ 0 → missingCode s ≡ 0) → Works s (answered (cond (eqb n 0) (afterMissing s) s) unobserved n [])
+  switches : (n : ℕ) → Works s (record { state = cond (eqb n 0) (switched s) s; event = untold; numbers = [] })
   takes : (ys : List ℤ) (room : ℕ) → Works s (record { state = batchRun s ys room .state; event = series ys (length (batchRun s ys room .levels)); numbers = batchRun s ys room .levels })
   forecasts-one : (h n : ℕ) (v : ℤ) → (n ≡ 0 → v ≡ forecastOf s h) → Works s (answered s (horizon h) n (v ∷ []))
   forecasts-all : (h n : ℕ) (zs : List ℤ) → (n ≡ 0 → zs ≡ forecastList s h) → Works s (answered s (horizons h) n zs)
@@ -56,6 +59,10 @@ direct-reading s y = rw (reading-code s y) (reads y (stepCode s y) (λ z. z))
 direct-missing : (s : State) → Works s (result s Missing)
 unfolding result missing
 direct-missing s = rw (missed-code s) (misses (missingCode s) (λ z. z))
+
+direct-switch : (s : State) → Works s (result s Switch)
+unfolding result switchToEven
+direct-switch s = switches (check s)
 
 -- the first `taken` cells are the levels
 batch-numbers : (s : State) (ys cells : List ℤ) → take (length (batchRun s ys (length cells) .levels)) (batchLevels s ys cells) ≡ batchRun s ys (length cells) .levels
@@ -130,6 +137,11 @@ module _ (s : State) (full : length (s .seasonal) ≡ 48) (ok : check s ≡ 0) (
       rw (state-after missingCode afterMissing (λ z. (full, missing-kept s z)))
       (misses (both missingCode) (accepts missingCode))
 
+  in-place-switch : Works s (result s (InPlaceSwitch slice))
+  unfolding d result inPlaceSwitchBytes
+  in-place-switch =
+      rw (state-after check (λ t. switched t) (λ z. (full, checks-kept s ∙ z))) (switches (both check))
+
   in-place-forecast : (h : ℕ) (old : ℤ) → Works s (result s (InPlaceForecast slice h old))
   unfolding d result inPlaceForecastCode inPlaceForecast
   in-place-forecast h old =
@@ -140,9 +152,11 @@ module _ (s : State) (full : length (s .seasonal) ≡ 48) (ok : check s ≡ 0) (
 pub works : (s : State) → length (s .seasonal) ≡ 48 → check s ≡ 0 → (k : Call) → Works s (result s k)
 works s full ok (Reading y) = direct-reading s y
 works s full ok Missing = direct-missing s
+works s full ok Switch = direct-switch s
 works s full ok (Batch ys cells) = direct-batch s ys cells
 works s full ok (Forecast limit h) = direct-forecast limit s h
 works s full ok (Forecasts limit h cells) = direct-forecasts limit s h cells
 works s full ok (InPlaceReading slice y) = in-place-reading s full ok slice y
 works s full ok (InPlaceMissing slice) = in-place-missing s full ok slice
+works s full ok (InPlaceSwitch slice) = in-place-switch s full ok slice
 works s full ok (InPlaceForecast slice h old) = in-place-forecast s full ok slice h old

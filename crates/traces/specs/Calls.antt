@@ -13,13 +13,14 @@ use lib.Dec.{eqb}
 use lib.IntN.{ℤ}
 use lib.ListN.{length, take, drop}
 use Rattle.state.specs.Rejections.{outcomeCode, answerCode, answerValue}
+use Rattle.state.specs.Switching.{switchToEven}
 use Rattle.state.specs.declared.State.{State}
 use Rattle.ets.specs.Steps.{step, missing}
 use Rattle.ets.specs.Batches.{batch, batchLevels}
 use Rattle.forecasts.specs.Forecasts.{forecastTo, forecastsTo, forecastCellsTo}
 use Rattle.snapshot.specs.Snapshots.{decoded}
 use Rattle.saving.specs.Encoding.{encoded}
-use Rattle.saving.specs.InPlace.{inPlaceStepCode, inPlaceStepBytes, inPlaceMissingCode, inPlaceMissingBytes, inPlaceForecastCode, inPlaceForecast}
+use Rattle.saving.specs.InPlace.{inPlaceStepCode, inPlaceStepBytes, inPlaceMissingCode, inPlaceMissingBytes, inPlaceSwitchBytes, inPlaceForecastCode, inPlaceForecast}
 
 -- What a call in place is lent of the memory with the state's snapshot: all of it and the bytes that follow (any of which makes the call a rejected one), or its first
 -- `size` bytes alone (too few make it one).
@@ -32,17 +33,21 @@ pub data Slice : Type 0 where
 pub data Call : Type 0 where
   Reading : (y : ℤ) → Call
   Missing : Call
+  Switch : Call
   Batch : (ys cells : List ℤ) → Call
   Forecast : (limit h : ℕ) → Call
   Forecasts : (limit h : ℕ) (cells : List ℤ) → Call
   InPlaceReading : (slice : Slice) (y : ℤ) → Call
   InPlaceMissing : (slice : Slice) → Call
+  InPlaceSwitch : (slice : Slice) → Call
   InPlaceForecast : (slice : Slice) (h : ℕ) (old : ℤ) → Call
 
--- what one who sees no state and no number is told of a call: its readings or horizon and, of its answer, only whether it was accepted or how many readings a batch took
+-- what one who sees no state and no number is told of a call: its readings or horizon and, of its answer, only whether it was accepted or how many readings a batch took;
+-- of a switch of the rounding rule (document 02, W-211) nothing
 pub data Event : Type 0 where
   observed : (y : ℤ) (accepted : Bool) → Event
   unobserved : (accepted : Bool) → Event
+  untold : Event
   series : (ys : List ℤ) (taken : ℕ) → Event
   horizon : (h : ℕ) (accepted : Bool) → Event
   horizons : (h : ℕ) (accepted : Bool) → Event
@@ -70,6 +75,7 @@ stateIn s (cut size) d = decoded (d ++ drop size (encoded s))
 unfoldable pub result : State → Call → Result
 result s (Reading y) = answered (step s y .state) (observed y) (answerCode (step s y .residual)) []
 result s Missing = answered (missing s .state) unobserved (outcomeCode (missing s .outcome)) []
+result s Switch = record { state = switchToEven s .state; event = untold; numbers = [] }
 result s (Batch ys cells) =
     let b = batch s ys (length cells) in
     record { state = b .state; event = series ys (b .taken); numbers = take (b .taken) (batchLevels s ys cells) }
@@ -80,6 +86,8 @@ result s (InPlaceReading slice y) =
     let d = sliceOf s slice in answered (stateIn s slice (inPlaceStepBytes d y)) (observed y) (inPlaceStepCode d y) []
 result s (InPlaceMissing slice) =
     let d = sliceOf s slice in answered (stateIn s slice (inPlaceMissingBytes d)) unobserved (inPlaceMissingCode d) []
+result s (InPlaceSwitch slice) =
+    record { state = stateIn s slice (inPlaceSwitchBytes (sliceOf s slice)); event = untold; numbers = [] }
 result s (InPlaceForecast slice h old) =
     let d = sliceOf s slice in answered s (horizon h) (inPlaceForecastCode d h) (inPlaceForecast d h old ∷ [])
 

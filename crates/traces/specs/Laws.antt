@@ -11,13 +11,14 @@ use Rattle.forecasts.specs.Forecasts.{maxHorizon}
 use Rattle.snapshot.specs.Snapshots.{decoded}
 use Rattle.snapshot.specs.Slices.{inPlaceCode}
 use Rattle.saving.specs.Encoding.{encoded}
-use Rattle.saving.specs.InPlace.{inPlaceStepBytes, inPlaceMissingBytes}
-use Rattle.traces.specs.Calls.{followed, Call, Reading, Missing, Forecast, InPlaceReading, InPlaceMissing, InPlaceForecast, Event, observed, unobserved, series, horizon, horizons, result, sliceOf}
+use Rattle.saving.specs.InPlace.{inPlaceStepBytes, inPlaceMissingBytes, inPlaceSwitchBytes}
+use Rattle.traces.specs.Calls.{followed, Call, Reading, Missing, Switch, Forecast, InPlaceReading, InPlaceMissing, InPlaceSwitch, InPlaceForecast, Event, observed, unobserved, untold, series, horizon, horizons, result, sliceOf}
 
 -- the cells that a call filled, or the forecast that it answered
 abbrev pub filled : Event → ℕ
 filled (observed y accepted) = 0
 filled (unobserved accepted) = 0
+filled untold = 0
 filled (series ys taken) = taken
 filled (horizon h accepted) = cond accepted 1 0
 filled (horizons h accepted) = cond accepted h 0
@@ -39,6 +40,7 @@ CallLaws = (s : State) → Passing s → (k : Call) → CallLaw s k
 pub record InPlaceLaw (s : State) : Type 0 where
   pub reading : (y : ℤ) → result s (InPlaceReading (followed []) y) ≡ result s (Reading y)
   pub missing : result s (InPlaceMissing (followed [])) ≡ result s Missing
+  pub switch : result s (InPlaceSwitch (followed [])) ≡ result s Switch
   pub forecast : (h : ℕ) (old : ℤ) → result s (InPlaceForecast (followed []) h old) ≡ result s (Forecast maxHorizon h)
 
 abbrev pub InPlaceLaws : Type 0
@@ -55,5 +57,6 @@ pub record SliceLaws : Type 0 where
   -- the slice that a call leaves holds the state that then stands, rejected or not
   pub reading : (d : List ℕ) (s : State) → Holds d s → (y : ℤ) → Holds (inPlaceStepBytes d y) (result s (InPlaceReading (followed []) y) .state)
   pub missing : (d : List ℕ) (s : State) → Holds d s → Holds (inPlaceMissingBytes d) (result s (InPlaceMissing (followed [])) .state)
+  pub switch : (d : List ℕ) (s : State) → Holds d s → Holds (inPlaceSwitchBytes d) (result s (InPlaceSwitch (followed [])) .state)
   -- a slice that ends before the snapshot does is rejected
   pub short : (s : State) (size : ℕ) → size < length (encoded s) → inPlaceCode (take size (encoded s)) ≡ 0 → ⊥

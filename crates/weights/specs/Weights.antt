@@ -1,11 +1,11 @@
 -- Document 01, "Forecast and variance": the weights (document 000, Class 1) and the variance.
 use Prim.Native.Nat.{ℕ, zero, suc, _+_, _-_, _*_, _/_, _%_}
 use mathlib.Core.Path.{_≡_}
-use mathlib.Core.Bool.{cond, _&&_}
+use mathlib.Core.Bool.{Bool, cond, _&&_}
 use lib.Dec.{eqb}
 use Rattle.state.specs.Fixed.{shareNat}
 use Rattle.state.specs.Rejections.{accepting}
-use Rattle.models.specs.Models.{trendOf, hasSeason}
+use Rattle.models.specs.Models.{trendOf, hasSeason, tiesToEven}
 use Rattle.state.specs.declared.State.{State}
 use Rattle.forecasts.specs.Forecasts.{forecastCode}
 use Rattle.weights.specs.declared.Weight.{Weight}
@@ -13,16 +13,17 @@ use Rattle.weights.specs.declared.Weight.the-variants as weight-of
 use Rattle.weights.specs.declared.Variance.{Variance}
 use Rattle.weights.specs.declared.Variance.the-variants as variance-of
 
--- P is 0 before j = 1 and at each j becomes R(F × (P + 65536))
-unfoldable pub dampingSum : ℕ → ℕ → ℕ
-dampingSum F zero = 0
-dampingSum F (suc j) = shareNat F (dampingSum F j + 65536)
+-- P is 0 before j = 1 and at each j becomes R(F × (P + 65536)), by the rounding rule
+unfoldable pub dampingSum : Bool → ℕ → ℕ → ℕ
+dampingSum even F zero = 0
+dampingSum even F (suc j) = shareNat even F (dampingSum even F j + 65536)
 
 -- the trend term: 0 without trend, B × j when straight, R(B × P) when damped
 unfoldable pub trendTerm : State → ℕ → ℕ
 trendTerm s j =
+    let even = tiesToEven (s .model) in
     cond (eqb (trendOf (s .model)) 0) 0
-    (cond (eqb (trendOf (s .model)) 1) (s .beta * j) (shareNat (s .beta) (dampingSum (s .phi) j)))
+    (cond (eqb (trendOf (s .model)) 1) (s .beta * j) (shareNat even (s .beta) (dampingSum even (s .phi) j)))
 
 -- G where m divides j; without season G is left out
 unfoldable pub seasonTerm : State → ℕ → ℕ

@@ -1,27 +1,56 @@
 // The arithmetic of a weight and its product with σ².
 use super::Variance;
+use models::ties_to_even;
 use models::trend_of;
 use state::State;
 ghost use Prim.Native.Nat.{_+_, _*_, _/_, _%_, _≤_};
 ghost use mathlib.Core.Path.{_≡_};
 ghost use mathlib.Core.Bool.{cond};
-ghost use lib.Dec.{eqb};
-ghost use Rattle.state.specs.Fixed.{shareNat};
+ghost use lib.Dec.{eqb, ltb};
+ghost use lib.IntN.{pos, natAbs};
+ghost use Rattle.state.specs.Fixed.{R, shareNat};
 ghost use Rattle.state.specs.Valid.{Valid};
 ghost use Rattle.weights.specs.Weights.{weightOf};
 
-// R(a × x) of a number that is not negative.
-fn share(a: u32, x: u64) -> u64
-    requires { ⌜ (a ≤ 65536) × (x ≤ 33619968) ⌝ }
-    ensures value { λ r. ⌜ r ≡ shareNat a x ⌝ }
-    ensures bound { λ r. ⌜ r ≤ x ⌝ }
+// R(v) of a number that is not negative, as in the step: for ties to even one less is added where the whole part is even, without a branch.
+fn round(even: bool, v: u64) -> u64
+    requires { ⌜ v ≤ 2203318222848 ⌝ }
+    ensures { λ r. ⌜ r ≡ natAbs (R even (pos v)) ⌝ }
 {
-    ((a as u64) * x + 32768) >> 16
+    let rule = even as u64;
+    let odd = (v >> 16) & rule;
+    (v + (32768 - rule) + odd) >> 16
 }
 
-fn trend_term(trend: u8, b: u32, j: u32, p: u64) -> u64
+// R(a × x). By each rule on its own, so that the compiler takes the test out of the loop below.
+fn share(even: bool, a: u32, x: u64) -> u64
+    requires { ⌜ (a ≤ 65536) × (x ≤ 33619968) ⌝ }
+    ensures value { λ r. ⌜ r ≡ shareNat even a x ⌝ }
+    ensures bound { λ r. ⌜ r ≤ x ⌝ }
+{
+    let v = (a as u64) * x;
+    if even {
+        round(true, v)
+    } else {
+        round(false, v)
+    }
+}
+
+// The next P; 0 where the trend is not damped and nothing uses it.
+fn next_damping(even: bool, trend: u8, phi: u32, p: u64) -> u64
+    requires { ⌜ (phi ≤ 65536) × (p ≤ 33554432) ⌝ }
+    ensures value { λ r. ⌜ r ≡ cond (ltb trend 2) 0 (shareNat even phi (p + 65536)) ⌝ }
+    ensures bound { λ r. ⌜ r ≤ p + 65536 ⌝ }
+{
+    if trend < 2 {
+        return 0;
+    }
+    share(even, phi, p + 65536)
+}
+
+fn trend_term(even: bool, trend: u8, b: u32, j: u32, p: u64) -> u64
     requires { ⌜ (b ≤ 65536) × (j ≤ 512) × (p ≤ 33554432) ⌝ }
-    ensures { λ r. ⌜ (r ≡ cond (eqb trend 0) 0 (cond (eqb trend 1) (b * j) (shareNat b p))) × (r ≤ 33554432) ⌝ }
+    ensures { λ r. ⌜ (r ≡ cond (eqb trend 0) 0 (cond (eqb trend 1) (b * j) (shareNat even b p))) × (r ≤ 33554432) ⌝ }
 {
     if trend == 0 {
         return 0;
@@ -29,7 +58,7 @@ fn trend_term(trend: u8, b: u32, j: u32, p: u64) -> u64
     if trend == 1 {
         return (b as u64) * (j as u64);
     }
-    share(b, p)
+    share(even, b, p)
 }
 
 // The remainder by m of j, from that of j − 1: no division in each turn.
@@ -53,14 +82,15 @@ pub fn weight_of(s: State, h: u32) -> u64
     requires { ⌜ Valid s × (1 ≤ h) × (h ≤ 512) ⌝ }
     ensures { λ r. ⌜ r ≡ weightOf s h ⌝ }
 {
+    let even = ties_to_even(s.model);
     let trend = trend_of(s.model);
     let mut sum: u64 = 0x1_0000_0000;
     let mut p: u64 = 0;
     let mut k: u32 = 0;
     for j in 1..h {
-        p = share(s.phi, p + 65536);
+        p = next_damping(even, trend, s.phi, p);
         k = next_remainder(k, s.period);
-        let c = (s.alpha as u64) + trend_term(trend, s.beta, j, p) + season_term(s.gamma, k);
+        let c = (s.alpha as u64) + trend_term(even, trend, s.beta, j, p) + season_term(s.gamma, k);
         sum = sum + c * c;
     }
     sum

@@ -41,6 +41,9 @@ returns-7 c =
 returns-8 : tie.Need-returns-8
 returns-8 c = performed _ _ _ _ (c .before .before .before .before .decode .ensures) (c .before .before .command4 .given .1) _ (c .reject .ensures)
 
+returns-9 : tie.Need-returns-9
+returns-9 c = performed _ _ _ _ (c .before .before .before .decode .ensures) (c .before .enum-told5 .given .1) _ (c .switch-state .ensures)
+
 pub perform-spec : {M : Type 1} → statement M
 perform-spec =
     tie.close
@@ -62,6 +65,8 @@ perform-spec =
     (λ c κs. search needs)
     (λ c. search needs)
     (λ c κs. search needs)
+    (λ c. search needs)
+    (λ c κs. search needs)
     returns
     returns-2
     returns-3
@@ -70,4 +75,5 @@ perform-spec =
     returns-6
     (λ c. search needs)
     returns-7
-    returns-8)
+    returns-8
+    returns-9)

@@ -65,8 +65,8 @@ trend-line-requires c κs =
     let r = ready c in
     rw (toZ-ofZ (s .fits .level), toZ-ofZ (s .fits .trend)) (r .phi, r .level, r .trend, r .horizon)
 
-add-t9 : tie.Need-add-t9
-add-t9 c = let s = c .before .before .before in rw (back w64 (c .trend-line .result) (c .trend-line .ok), toZ-ofZ (s .fits .season)) (sum-fits c)
+add-t10 : tie.Need-add-t10
+add-t10 c = let s = c .before .before .before in rw (back w64 (c .trend-line .result) (c .trend-line .ok), toZ-ofZ (s .fits .season)) (sum-fits c)
 
 returns-2 : tie.Need-returns-2
 unfolding forecastFrom
@@ -77,4 +77,4 @@ returns-2 c =
 
 pub forecast-from-spec : {M : Type 1} → statement M
 forecast-from-spec =
-    tie.close (tie.spec (λ c κs. search needs) returns trend-line-requires add-t9 returns-2)
+    tie.close (tie.spec (λ c κs. search needs) returns trend-line-requires add-t10 returns-2)

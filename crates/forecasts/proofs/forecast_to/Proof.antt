@@ -40,13 +40,13 @@ returns c = rw (← (c .before .forecast-code-to .ensures), ne-eqb _ _ (c .if1 .
 
 trend-line-requires : tie.Need-trend-line-requires
 trend-line-requires c κs =
-    let q = c .before .before in
+    let q = c .before .before .before in
     let b = facts q .bounded in
     rw (level-is q, trend-is q) (b .phi, b .level, b .trend, omega (arith, ready q .most, q .before .before .pre))
 
 season-at-requires : tie.Need-season-at-requires
 season-at-requires c κs =
-    let q = c .before .before .before in
+    let q = c .before .before .before .before in
     (facts q, ready q .least, omega (arith, ready q .most, q .before .before .pre))
 
 add-t8 : tie.Need-add-t8
@@ -56,8 +56,8 @@ returns-2 : tie.Need-returns-2
 unfolding forecastTo forecastOf
 returns-2 c =
     let t = c .before in
-    let q = t .before .before .before in
-    rw (← (q .before .forecast-code-to .ensures), eq-eqb _ _ (q .if1 .left), machine-is c, t .trend-line .ensures .0, level-is q, trend-is q, c .season-at .ensures .0)
+    let q = t .before .before .before .before in
+    rw (← (q .before .forecast-code-to .ensures), eq-eqb _ _ (q .if1 .left), machine-is c, t .trend-line .ensures .0, t .before .before .before .ties-to-even .ensures, level-is q, trend-is q, c .season-at .ensures .0)
 
 pub forecast-to-spec : {M : Type 1} → statement M
 forecast-to-spec =
@@ -65,6 +65,7 @@ forecast-to-spec =
     (tie.spec
     (λ c κs. search needs)
     returns
+    (λ c κs. search needs)
     trend-line-requires
     season-at-requires
     add-t8

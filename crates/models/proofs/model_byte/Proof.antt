@@ -1,19 +1,25 @@
-use mathlib.Core.Path.{_∙_, ap}
+use mathlib.Core.Path.{_≡_, _∙_, ap}
 use native.Mathlib.Omega.{arith}
 use lib.Bits.{bitOr, or-shifted-r}
 use lib.Dec.{lit≤}
 use lib.Pow.{shl-exact}
-use Prim.Native.Nat.{_<_}
+use Prim.Native.Nat.{ℕ, _+_, _*_, _<_, _%_, _^_}
 use borrow.Author.Needs.{needs}
 use Rattle.models.proofs.model_byte.Statement.{statement}
 use Rattle.models.proofs.model_byte.Tie as tie
 
+-- the three parts do not overlap
+parts : (trend season rounding : ℕ) → trend < 4 → season < 2 → rounding < 2 → bitOr (bitOr trend (season * 2 ^ 2 % 2 ^ 8)) (rounding * 2 ^ 6 % 2 ^ 8) ≡ rounding * 64 + season * 4 + trend
+parts trend season rounding t s r =
+    let low : bitOr trend (season * 2 ^ 2 % 2 ^ 8) ≡ season * 4 + trend = ap (bitOr trend) (shl-exact 1 2 8 s (lit≤ tt)) ∙ or-shifted-r season 2 trend t in
+    rw low (ap (bitOr (season * 4 + trend)) (shl-exact 1 6 8 r (lit≤ tt)) ∙ or-shifted-r rounding 6 (season * 4 + trend) (omega arith) ∙ omega arith)
+
 returns : tie.Need-returns
 returns c =
-    let season : c .season-of .result < 2 = omega (arith, c .season-of .ensures) in
-    let trend : c .before .trend-of .result < 4 = omega (arith, c .before .trend-of .ensures) in
-    ap (bitOr (c .before .trend-of .result)) (shl-exact 1 2 8 season (lit≤ tt)) ∙ or-shifted-r (c .season-of .result) 2 (c .before .trend-of .result) trend
-    ∙ rw (c .season-of .ensures, c .before .trend-of .ensures)
+    let t = c .before .before .trend-of in
+    let s = c .before .season-of in
+    let r = c .rounding-of in
+    parts (t .result) (s .result) (r .result) (omega (arith, t .ensures)) (omega (arith, s .ensures)) (omega (arith, r .ensures)) ∙ rw (t .ensures, s .ensures, r .ensures)
 
 pub model-byte-spec : {M : Type 1} → statement M
-model-byte-spec = tie.close (tie.spec (λ c κs. search needs) (λ c κs. search needs) returns)
+model-byte-spec = tie.close (tie.spec (λ c κs. search needs) (λ c κs. search needs) (λ c κs. search needs) returns)

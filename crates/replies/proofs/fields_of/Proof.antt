@@ -33,6 +33,12 @@ returns-7 c = c .two3 .ensures ∙ sym (ap fieldsOf (c .before .before .r6 .give
 returns-8 : tie.Need-returns-8
 returns-8 c = c .one4 .ensures ∙ sym (ap fieldsOf (c .before .before .r7 .given .1))
 
+enum-told2 : tie.Need-enum-told-2
+enum-told2 c = search needs
+
+returns-9 : tie.Need-returns-9
+returns-9 c = c .one5 .ensures ∙ sym (ap fieldsOf (c .before .enum-told2 .given .1))
+
 pub fields-of-spec : {M : Type 1} → statement M
 fields-of-spec =
     tie.close
@@ -58,6 +64,8 @@ fields-of-spec =
     (λ c κs. search needs)
     (λ c. search needs)
     (λ c κs. search needs)
+    enum-told2
+    (λ c κs. search needs)
     returns
     returns-2
     returns-3
@@ -65,4 +73,5 @@ fields-of-spec =
     returns-5
     returns-6
     returns-7
-    returns-8)
+    returns-8
+    returns-9)

@@ -51,8 +51,12 @@ returns-5 c =
     rw (c .before .before .if5 .taken) (rw (← h, ← k))
 
 returns-6 : tie.Need-returns-6
+unfolding operands opens
+returns-6 c = rw (c .if6 .taken)
+
+returns-7 : tie.Need-returns-7
 unfolding operands
-returns-6 c = rw (← (c .before .before .before .before .before .opens .ensures), c .before .before .before .before .if1 .left, ne-eqb _ _ (c .before .before .before .if2 .left), ne-eqb _ _ (c .before .before .if3 .left), ne-eqb _ _ (c .before .if4 .left), ne-eqb _ _ (c .if5 .left))
+returns-7 c = rw (← (c .before .before .before .before .before .before .opens .ensures), c .before .before .before .before .before .if1 .left, ne-eqb _ _ (c .before .before .before .before .if2 .left), ne-eqb _ _ (c .before .before .before .if3 .left), ne-eqb _ _ (c .before .before .if4 .left), ne-eqb _ _ (c .before .if5 .left), ne-eqb _ _ (c .if6 .left))
 
 pub operands-spec : {M : Type 1} → statement M
 operands-spec =
@@ -73,4 +77,5 @@ operands-spec =
     (λ c. search needs)
     read-u32-requires
     returns-5
-    returns-6)
+    returns-6
+    returns-7)

@@ -20,17 +20,17 @@ module _ (s : tie.Start) where
   trend-is : toZ w64 (ofZ w64 (s .args .n .trend)) ≡ s .args .n .trend
   trend-is = within-back w64 (s .pre .trend) (omega arith)
 
-  level-within : Within 2199023255552 (s .args .n .level +ℤ share (s .args .n .phi) (s .args .n .trend))
-  level-within = within-add (s .pre .level) (share-within (s .pre .phi) (s .pre .trend))
+  level-within : Within 2199023255552 (s .args .n .level +ℤ share (s .args .even) (s .args .n .phi) (s .args .n .trend))
+  level-within = within-add (s .pre .level) (share-within (s .args .even) (s .pre .phi) (s .pre .trend))
 
 share-requires : tie.Need-share-requires
 share-requires c κs = let p = c .before .pre in rw (trend-is (c .before)) (p .phi, within-le 8796093022208 (omega arith) (p .trend))
 
-damped-is : (c : tie.After-share) → let n = c .before .before .args .n in toZ w64 (ofZ w64 (c .share .result)) ≡ share (n .phi) (n .trend)
+damped-is : (c : tie.After-share) → let a = c .before .before .args in toZ w64 (ofZ w64 (c .share .result)) ≡ share (a .even) (a .n .phi) (a .n .trend)
 damped-is c = back w64 (c .share .result) (c .share .ok) ∙ c .share .ensures ∙ rw (trend-is (c .before .before))
 
-add-t3 : tie.Need-add-t3
-add-t3 c =
+add-t4 : tie.Need-add-t4
+add-t4 c =
     let d = c .before .before in
     let s = d .before .before in
     rw (level-is s, damped-is d) (within-fits w64 (level-within s) (omega arith))
@@ -43,4 +43,4 @@ returns c =
     rw (level-is s, damped-is d, within-back w64 (level-within s) (omega arith), back w64 (s .args .n .season) (c .struct-told3 .given .1 .1 .1 .1 .1 .1 .0 .1))
 
 pub advance-spec : {M : Type 1} → statement M
-advance-spec = tie.close (tie.spec share-requires add-t3 returns)
+advance-spec = tie.close (tie.spec share-requires add-t4 returns)

@@ -20,14 +20,14 @@ module _ (s : tie.Start) where
   wt : Within 2199023255552 (s .args .t .level +ℤ s .args .t .damped)
   wt = within-add (s .pre .0 .level) (s .pre .0 .damped)
 
-  wl : Within 5563094138880 (s .args .t .level +ℤ s .args .t .damped +ℤ share (s .args .t .alpha) (s .args .e))
-  wl = within-add wt (share-within (s .pre .0 .alpha) (s .pre .1))
+  wl : Within 5563094138880 (s .args .t .level +ℤ s .args .t .damped +ℤ share (s .args .t .even) (s .args .t .alpha) (s .args .e))
+  wl = within-add wt (share-within (s .args .t .even) (s .pre .0 .alpha) (s .pre .1))
 
-  wb : Within 4463582511104 (s .args .t .damped +ℤ share (s .args .t .beta) (s .args .e))
-  wb = within-add (s .pre .0 .damped) (share-within (s .pre .0 .beta) (s .pre .1))
+  wb : Within 4463582511104 (s .args .t .damped +ℤ share (s .args .t .even) (s .args .t .beta) (s .args .e))
+  wb = within-add (s .pre .0 .damped) (share-within (s .args .t .even) (s .pre .0 .beta) (s .pre .1))
 
-  ws : Within 4463582511104 (s .args .t .season +ℤ share (s .args .t .gamma) (s .args .e))
-  ws = within-add (s .pre .0 .season) (share-within (s .pre .0 .gamma) (s .pre .1))
+  ws : Within 4463582511104 (s .args .t .season +ℤ share (s .args .t .even) (s .args .t .gamma) (s .args .e))
+  ws = within-add (s .pre .0 .season) (share-within (s .args .t .even) (s .pre .0 .gamma) (s .pre .1))
 
   lb : toZ w64 (ofZ w64 (s .args .t .level)) ≡ s .args .t .level
   lb = within-back w64 (s .pre .0 .level) (omega arith)
@@ -45,7 +45,7 @@ module _ (s : tie.Start) where
   asked : (g : ℕ) → g ≤ 65536 → (g ≤ 65536) × Within 8796093022208 (toZ w64 (ofZ w64 (s .args .e)))
   asked g h = (h, rw eb (within-le 8796093022208 (omega arith) (s .pre .1)))
 
-  gb : (g : ℕ) (r : ℤ) → mag r < 2 ^ 63 → r ≡ share g (toZ w64 (ofZ w64 (s .args .e))) → toZ w64 (ofZ w64 r) ≡ share g (s .args .e)
+  gb : (g : ℕ) (r : ℤ) → mag r < 2 ^ 63 → r ≡ share (s .args .t .even) g (toZ w64 (ofZ w64 (s .args .e))) → toZ w64 (ofZ w64 r) ≡ share (s .args .t .even) g (s .args .e)
   gb g r f e = back w64 r f ∙ e ∙ rw eb
 
 add-t3 : tie.Need-add-t3

@@ -9,7 +9,7 @@ use Rattle.ets.proofs.arithmetic.missing_update.Statement.{statement}
 use Rattle.ets.proofs.arithmetic.missing_update.Tie as tie
 
 -- 14, then 15 of its level
-code : (c : tie.After-first) → let n = c .before .before .before .before .before .before .args .n in c .first .result ≡ gapCode (termsAt n) (n .count)
+code : (c : tie.After-first) → let a = c .before .before .before .before .before .before .args in c .first .result ≡ gapCode (termsAt (a .even) (a .n)) (a .n .count)
 unfolding advance
 code c =
     let k = c .before .before .before .before in

@@ -13,11 +13,11 @@ use Rattle.ets.proofs.arithmetic.reading_update.Tie as tie
 code : (c : tie.After-early-code) → c .early-code .result ≡ earlyCode (c .before .args .n .count) (c .before .args .y)
 code c = rw (toZ-ofZ (c .before .fits .y)) at (c .early-code .ensures)
 
-early : (c : tie.Else1) → Early (termsAt (c .before .before .args .n)) (c .before .before .args .n .count) (c .before .before .args .y)
+early : (c : tie.Else1) → Early (termsAt (c .before .before .args .even) (c .before .before .args .n)) (c .before .before .args .n .count) (c .before .before .args .y)
 early c = early-passes _ _ _ (sym (code (c .before)) ∙ c .if1 .left)
 
 -- what was computed are the corrections of the arguments themselves
-computed : (c : tie.After-corrections) → let s = c .before .before .before .before .before in c .corrections .result ≡ corrections (termsAt (s .args .n)) (residual (termsAt (s .args .n)) (s .args .y))
+computed : (c : tie.After-corrections) → let s = c .before .before .before .before .before in c .corrections .result ≡ corrections (termsAt (s .args .even) (s .args .n)) (residual (termsAt (s .args .even) (s .args .n)) (s .args .y))
 computed c =
     let r = c .before in
     let s = r .before .before .before .before in
@@ -28,17 +28,17 @@ unfolding readingUpdate
 returns c =
     let k = c .before .before in
     let q : earlyCode (k .before .args .n .count) (k .before .args .y) ≡ 0 → ⊥ = λ z. c .before .if1 .taken (code k ∙ z) in
-    rw (early-rejects (termsAt (k .before .args .n)) _ _ q, ← (code k), ne-eqb _ _ (c .before .if1 .taken)) (c .not-updated .ensures)
+    rw (early-rejects (termsAt (k .before .args .even) (k .before .args .n)) _ _ q, ← (code k), ne-eqb _ _ (c .before .if1 .taken)) (c .not-updated .ensures)
 
 residual-requires : tie.Need-residual-requires
 residual-requires c κs =
     let e = c .before in
-    rw (c .terms-at .ensures, toZ-ofZ (e .before .before .fits .y)) (terms-in (e .before .before .pre), early e .reading)
+    rw (c .terms-at .ensures, toZ-ofZ (e .before .before .fits .y)) (terms-in (e .before .before .args .even) (e .before .before .pre), early e .reading)
 
 corrections-requires : tie.Need-corrections-requires
 corrections-requires c κs =
     let e = c .before .before in
-    rw (back w64 (c .residual .result) (c .residual .ok)) (rw (c .before .terms-at .ensures) (terms-in (e .before .before .pre)), c .residual .ensures .1)
+    rw (back w64 (c .residual .result) (c .residual .ok)) (rw (c .before .terms-at .ensures) (terms-in (e .before .before .args .even) (e .before .before .pre)), c .residual .ensures .1)
 
 returns-2 : tie.Need-returns-2
 unfolding readingUpdate corrections

@@ -1,21 +1,19 @@
-use lib.IntN.{pos, _+ℤ_}
-use mir.Syntax.{w64}
-use mir.Val.{SFits}
-use mir.ValLaws.{toZ-ofZ}
-use Rattle.integers.proofs.Difference.{ints, sum, fits-range, fits-shr}
-use Rattle.state.specs.Fixed.{R}
+use Rattle.state.proofs.RoundingCode.{base-fits, first-fits, total-fits, code-is}
+use borrow.Author.Needs.{needs}
 use Rattle.ets.proofs.arithmetic.round.Statement.{statement}
 use Rattle.ets.proofs.arithmetic.round.Tie as tie
 
-add-fits : (c : tie.Start) → SFits w64 (c .args .v +ℤ pos 32768)
-add-fits c = let p = c .pre in omega (ints, sum (c .args .v) (pos 32768), fits-range (c .fits .v))
+sub-result : tie.Need-sub-result
+sub-result c = base-fits (c .args .v) (c .pre) (c .args .even)
 
 add-result : tie.Need-add-result
-add-result c = simp (toZ-ofZ, c .fits .v) (add-fits c)
+add-result c = first-fits (c .args .v) (c .pre) (c .args .even)
+
+add-result-2 : tie.Need-add-result-2
+add-result-2 c = total-fits (c .args .v) (c .pre) (c .args .even)
 
 returns : tie.Need-returns
-unfolding R
-returns c = simp (toZ-ofZ, c .fits .v, add-fits c, fits-shr 65536 (add-fits c))
+returns c = code-is (c .args .v) (c .pre) (c .args .even)
 
 pub round-spec : {M : Type 1} → statement M
-round-spec = tie.close (tie.spec add-result returns)
+round-spec = tie.close (tie.spec (λ c. search needs) sub-result add-result add-result-2 returns)

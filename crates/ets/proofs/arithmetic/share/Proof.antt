@@ -29,7 +29,7 @@ returns : tie.Need-returns
 unfolding share
 returns c =
     let s = c .before in
-    back w64 (c .round .result) (c .round .ok) ∙ c .round .ensures ∙ ap R (simp (toZ-ofZ w64 (pos (s .args .a)) (search needs), toZ-ofZ, s .fits .x, product-fits s))
+    back w64 (c .round .result) (c .round .ok) ∙ c .round .ensures ∙ ap (R (s .args .even)) (simp (toZ-ofZ w64 (pos (s .args .a)) (search needs), toZ-ofZ, s .fits .x, product-fits s))
 
 pub share-spec : {M : Type 1} → statement M
 share-spec = tie.close (tie.spec (λ c. search needs) mul-round round-requires returns)

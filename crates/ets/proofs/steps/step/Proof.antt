@@ -2,6 +2,7 @@ use mathlib.Core.Path.{_≡_, sym, ap, _∙_}
 use mir.Syntax.{w64}
 use mir.Facts.{toZ-ofZ}
 use Rattle.integers.proofs.Difference.{back}
+use Rattle.models.specs.Models.{tiesToEven}
 use Rattle.state.specs.States.{check}
 use Rattle.state.specs.Valid.{Valid}
 use Rattle.state.proofs.Passing.{valid}
@@ -22,11 +23,11 @@ facts : (c : tie.Else1) → Valid (c .before .before .args .s)
 facts c = valid _ (passes c)
 
 -- what was read is the update of the state
-numbers-are : (c : tie.After-reading-update) → let s = c .before .before .before .before .args in c .reading-update .result ≡ readingUpdate (numbersOf (s .s)) (s .y)
-numbers-are c = rw (c .before .numbers-of .ensures, toZ-ofZ (c .before .before .before .before .fits .y)) at (c .reading-update .ensures)
+numbers-are : (c : tie.After-reading-update) → let s = c .before .before .before .before .before .args in c .reading-update .result ≡ readingUpdate (tiesToEven (s .s .model)) (numbersOf (s .s)) (s .y)
+numbers-are c = rw (c .before .numbers-of .ensures, c .before .before .ties-to-even .ensures, toZ-ofZ (c .before .before .before .before .before .fits .y)) at (c .reading-update .ensures)
 
-code-is : (c : tie.After-reading-update) → let s = c .before .before .before .before .args in c .reading-update .result .code ≡ stepCode (s .s) (s .y)
-code-is c = ap (λ (u : Update). u .code) (numbers-are c) ∙ read-code _ (passes (c .before .before)) _
+code-is : (c : tie.After-reading-update) → let s = c .before .before .before .before .before .args in c .reading-update .result .code ≡ stepCode (s .s) (s .y)
+code-is c = ap (λ (u : Update). u .code) (numbers-are c) ∙ read-code _ (passes (c .before .before .before)) _
 
 returns : tie.Need-returns
 returns c =
@@ -37,31 +38,31 @@ returns c =
     ∙ sym (step-rejected s (k .before .args .y) (k .check .result) (step-unchecked s (k .before .args .y) n ∙ sym (k .check .ensures)) (c .before .if1 .taken))
 
 numbers-of-requires : tie.Need-numbers-of-requires
-numbers-of-requires c κs = facts c .bounded .index
+numbers-of-requires c κs = facts (c .before) .bounded .index
 
 reading-update-requires : tie.Need-reading-update-requires
-reading-update-requires c κs = rw (c .numbers-of .ensures) (numbers-in _ (facts (c .before)))
+reading-update-requires c κs = rw (c .numbers-of .ensures) (numbers-in _ (facts (c .before .before)))
 
 returns-2 : tie.Need-returns-2
 returns-2 c =
     let r = c .before .before in
-    let s = r .before .before .before .before .args in
+    let s = r .before .before .before .before .before .args in
     c .rejected-step2 .ensures ∙ sym (step-rejected (s .s) (s .y) (r .reading-update .result .code) (sym (code-is r)) (c .before .if2 .taken))
 
 store-requires : tie.Need-store-requires
 store-requires c κs =
     let r = c .before .before in
-    let s = r .before .before .before .before .args in
-    (facts (r .before .before) .bounded .index, step-facts (s .s) (s .y) (sym (code-is r) ∙ c .before .if2 .left) .room)
+    let s = r .before .before .before .before .before .args in
+    (facts (r .before .before .before) .bounded .index, step-facts (s .s) (s .y) (sym (code-is r) ∙ c .before .if2 .left) .room)
 
 returns-3 : tie.Need-returns-3
 unfolding corrections
 returns-3 c =
     let r = c .before .before .before in
-    let s = r .before .before .before .before .args in
+    let s = r .before .before .before .before .before .args in
     let z = sym (code-is r) ∙ c .before .before .if2 .left in
-    let n = numbers-are r ∙ read-is (s .s) (passes (r .before .before)) (s .y) z in
-    let x = c .store .ensures ∙ ap (stored (s .s)) n ∙ stored-is (s .s) (facts (r .before .before)) (residualOf (s .s) (s .y)) in
+    let n = numbers-are r ∙ read-is (s .s) (passes (r .before .before .before)) (s .y) z in
+    let x = c .store .ensures ∙ ap (stored (s .s)) n ∙ stored-is (s .s) (facts (r .before .before .before)) (residualOf (s .s) (s .y)) in
     rw (step-accepted (s .s) (s .y) z, x, back w64 (r .reading-update .result .residual) (c .before .struct-told .given .1 .1 .1 .1 .0 .1), n)
 
 pub step-spec : {M : Type 1} → statement M
@@ -71,6 +72,7 @@ step-spec =
     (λ c κs. search needs)
     (λ c κs. search needs)
     returns
+    (λ c κs. search needs)
     numbers-of-requires
     reading-update-requires
     (λ c κs. search needs)

@@ -12,6 +12,7 @@ use mir.ValLaws.{toZ-ofZ}
 use borrow.Author.Needs.{needs}
 use Rattle.integers.proofs.Difference.{back}
 use Rattle.integers.proofs.Bounds.{within-add, within-fits}
+use Rattle.models.specs.Models.{tiesToEven}
 use Rattle.state.specs.Valid.{Bounded}
 use Rattle.forecasts.specs.Forecasts.{trendAt, trendLine, seasonAt, forecastOf, forecastList}
 use Rattle.forecasts.proofs.ForecastLaws.{Turn, turn, trend-bound, line-bound, ahead, ahead-small, season-ahead, list-more}
@@ -19,16 +20,17 @@ use Rattle.forecasts.proofs.sums.fill.Statement.{statement}
 use Rattle.forecasts.proofs.sums.fill.Tie as tie
 
 abbrev Inv-loop : tie.InvT-loop
-Inv-loop h values₀ s line₀ d₀ p₀ i₀ values line d p i =
+Inv-loop h values₀ s even line₀ d₀ p₀ i₀ values line d p i =
     (i ≤ h)
-    × (toZ w64 d ≡ trendAt (s .phi) (s .trend) i)
-    × (toZ w64 line ≡ trendLine (s .level) (s .phi) (s .trend) i)
+    × (toZ w64 d ≡ trendAt (tiesToEven (s .model)) (s .phi) (s .trend) i)
+    × (toZ w64 line ≡ trendLine (tiesToEven (s .model)) (s .level) (s .phi) (s .trend) i)
     × (p ≡ ahead (s .period) (s .index) i)
     × (length values ≡ length values₀)
     × (values ≡ forecastList s i ++ drop i values₀)
+    × (even ≡ tiesToEven (s .model))
 
 abbrev μ-loop : tie.MeasureT-loop
-μ-loop h values₀ s line₀ d₀ p₀ i₀ values line d p i = h - i
+μ-loop h values₀ s even line₀ d₀ p₀ i₀ values line d p i = h - i
 
 bounded-at : (c : tie.Start Inv-loop μ-loop) → Bounded (c .args .t1)
 bounded-at c = c .pre .0 .bounded
@@ -37,26 +39,26 @@ bounded-at c = c .pre .0 .bounded
 index-in : (c : tie.In-loop Inv-loop μ-loop) → c .before .loop .p < 48
 index-in c =
     let at = c .before in
-    let b = bounded-at (at .before .before .before) in
+    let b = bounded-at (at .before .before .before .before) in
     rw (at .loop .inv .3) (ahead-small _ _ (at .loop .i) (b .period) (b .index))
 
-turn-at : (c : tie.After-share Inv-loop μ-loop) → let s = c .before .before .before .before .before .args .t1 in Turn (s .level) (s .phi) (s .trend) (c .before .before .loop .i) (toZ w64 (c .before .before .loop .line)) (c .share .result)
+turn-at : (c : tie.After-share Inv-loop μ-loop) → let s = c .before .before .before .before .before .before .args .t1 in Turn (tiesToEven (s .model)) (s .level) (s .phi) (s .trend) (c .before .before .loop .i) (toZ w64 (c .before .before .loop .line)) (c .share .result)
 turn-at c =
     let at = c .before .before in
-    let s = at .before .before .before in
+    let s = at .before .before .before .before in
     let b = bounded-at s in
-    turn (s .args .t1 .level) (s .args .t1 .phi) (s .args .t1 .trend) (b .phi) (b .level) (b .trend) (at .loop .i) (omega (arith, s .pre .1)) (toZ w64 (at .loop .d)) (toZ w64 (at .loop .line)) (c .share .result) (at .loop .inv .1) (at .loop .inv .2) (c .share .ok) (c .share .ensures)
+    turn (tiesToEven (s .args .t1 .model)) (s .args .t1 .level) (s .args .t1 .phi) (s .args .t1 .trend) (b .phi) (b .level) (b .trend) (at .loop .i) (omega (arith, s .pre .1)) (toZ w64 (at .loop .d)) (toZ w64 (at .loop .line)) (c .share .result) (at .loop .inv .1) (at .loop .inv .2) (c .share .ok) (rw (at .loop .inv .6) at (c .share .ensures))
 
 loop-holds : tie.Need-loop-holds Inv-loop μ-loop
 unfolding trendAt trendLine ahead forecastList
 loop-holds c =
-    (search needs, back w64 _ (c .struct-told2 .given .1 .1 .1 .1 .1 .1 .1 .1 .0 .1), back w64 _ (c .struct-told2 .given .1 .1 .1 .1 .1 .1 .1 .0 .1), refl, refl, refl)
+    (search needs, back w64 _ (c .struct-told2 .given .1 .1 .1 .1 .1 .1 .1 .1 .0 .1), back w64 _ (c .struct-told2 .given .1 .1 .1 .1 .1 .1 .1 .0 .1), refl, refl, refl, c .before .before .ties-to-even .ensures)
 
 share-requires : tie.Need-share-requires Inv-loop μ-loop
 share-requires c κs =
     let at = c .before in
-    let b = bounded-at (at .before .before .before) in
-    (b .phi, rw (at .loop .inv .1) (trend-bound _ _ _ (b .phi) (b .level) (b .trend) (at .loop .i)))
+    let b = bounded-at (at .before .before .before .before) in
+    (b .phi, rw (at .loop .inv .1) (trend-bound _ _ _ _ (b .phi) (b .level) (b .trend) (at .loop .i)))
 
 add-line : tie.Need-add-line Inv-loop μ-loop
 add-line c = turn-at c .fits
@@ -76,7 +78,7 @@ module _ (c : tie.After-season Inv-loop μ-loop) where
   at = c .before .before .before
 
   abbrev st : tie.Start Inv-loop μ-loop
-  st = at .before .before .before
+  st = at .before .before .before .before
 
   season-is : toZ w64 (ofZ w64 (getD (st .args .t1 .seasonal) (at .loop .p) (pos 0))) ≡ seasonAt (st .args .t1) (suc (at .loop .i))
   season-is = rw (back w64 _ (c .season .given), season-ahead (st .args .t1) (st .pre .0) (at .loop .i), ← (at .loop .inv .3))
@@ -85,7 +87,7 @@ module _ (c : tie.After-season Inv-loop μ-loop) where
   unfolding forecastOf
   value-fits =
       within-fits w64
-      (within-add {m = 1099511627776} (line-bound _ _ _ (bounded-at st .phi) (bounded-at st .level) (bounded-at st .trend) (suc (at .loop .i)) (omega (arith, st .pre .1)))
+      (within-add {m = 1099511627776} (line-bound _ _ _ _ (bounded-at st .phi) (bounded-at st .level) (bounded-at st .trend) (suc (at .loop .i)) (omega (arith, st .pre .1)))
       (rw (season-ahead (st .args .t1) (st .pre .0) (at .loop .i), ← (at .loop .inv .3)) (bounded-at st .cells (at .loop .p) (index-in (c .before .before)))))
       (omega arith)
 
@@ -115,12 +117,13 @@ loop-again c =
       rw add-one (c .next-index .ensures ∙ rw (at f .loop .inv .3)),
       simp length-set (at f .loop .inv .4),
       rw add-one (stored-is f),
+      at f .loop .inv .6,
     )
 
 returns : tie.Need-returns Inv-loop μ-loop
 returns c =
     let at = c .before in
-    let n : at .loop .i ≡ at .before .before .before .args .h = omega arith in
+    let n : at .loop .i ≡ at .before .before .before .before .args .h = omega arith in
     rw n at (at .loop .inv .5)
 
 pub fill-spec : {M : Type 1} → statement M
@@ -129,6 +132,7 @@ fill-spec =
     (tie.spec
     Inv-loop
     μ-loop
+    (λ c κs. search needs)
     loop-holds
     share-requires
     add-line

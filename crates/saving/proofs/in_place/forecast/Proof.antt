@@ -1,11 +1,13 @@
 -- `saving::in_place::forecast` meets its contract: the forecast is made of the numbers of the state which the slice holds.
 use Prim.Native.Nat.{ℕ}
 use mathlib.Core.Path.{_≡_, sym, ap, ap₂, _∙_}
+use mathlib.Core.Bool.{Bool}
 use mathlib.Core.List.{List}
 use lib.IntN.{ℤ, _+ℤ_}
 use mir.Syntax.{w64}
 use mir.ValLaws.{toZ-ofZ}
 use Rattle.integers.proofs.Difference.{back}
+use Rattle.models.specs.Models.{tiesToEven}
 use Rattle.state.specs.declared.State.{State}
 use Rattle.state.proofs.Answers.{answer-rejected, answer-accepted}
 use Rattle.forecasts.specs.Forecasts.{trendLine, forecastCode, forecastFromCode, forecastFrom, forecastOf}
@@ -59,7 +61,7 @@ module _ (c : tie.After-forecast-from) where
   abbrev v : ℤ
   v = aheadValue (d o) opens (h o)
 
-  forecasted : c .forecast-from .result ≡ forecastFrom (s .level) (s .phi) (s .trend) v (h o)
+  forecasted : c .forecast-from .result ≡ forecastFrom (tiesToEven (s .model)) (s .level) (s .phi) (s .trend) v (h o)
   forecasted =
       let n = o .opened .result .numbers in
       let e = held q .numbers in
@@ -67,15 +69,15 @@ module _ (c : tie.After-forecast-from) where
       let l = back w64 (n .level) (t .1 .1 .1 .1 .0 .1) ∙ ap (λ (n : Numbers). n .level) e in
       let b = back w64 (n .trend) (t .1 .1 .1 .1 .1 .0 .1) ∙ ap (λ (n : Numbers). n .trend) e in
       let w = back w64 (a .season-ahead .result) (a .season-ahead .ok) ∙ a .season-ahead .ensures ∙ ap₂ (λ (m p : ℕ). aheadIn (d o) m p (h o)) (held q .period) (held q .index) in
-      c .forecast-from .ensures ∙ same _ _ _ _ _ _ _ _ (h o) l (ap (λ (n : Numbers). n .phi) e) b w
+      c .forecast-from .ensures ∙ same _ _ _ _ _ _ _ _ _ _ (h o) (held q .even) l (ap (λ (n : Numbers). n .phi) e) b w
     where
-      same : (l l′ : ℤ) (F F′ : ℕ) (b b′ s s′ : ℤ) (h : ℕ) → l ≡ l′ → F ≡ F′ → b ≡ b′ → s ≡ s′ → forecastFrom l F b s h ≡ forecastFrom l′ F′ b′ s′ h
-      same l l′ F F′ b b′ s s′ h el ef eb es = rw (el, ef, eb, es)
+      same : (x x′ : Bool) (l l′ : ℤ) (F F′ : ℕ) (b b′ s s′ : ℤ) (h : ℕ) → x ≡ x′ → l ≡ l′ → F ≡ F′ → b ≡ b′ → s ≡ s′ → forecastFrom x l F b s h ≡ forecastFrom x′ l′ F′ b′ s′ h
+      same x x′ l l′ F F′ b b′ s s′ h ex el ef eb es = rw (ex, el, ef, eb, es)
 
   code-is : forecastFromCode (s .level) (s .phi) (s .trend) v (h o) ≡ forecastCode s (h o)
   code-is = from-code s (held q .passes) v (ahead-within (d o) opens (h o)) (h o)
 
-  value-is : forecastCode s (h o) ≡ 0 → trendLine (s .level) (s .phi) (s .trend) (h o) +ℤ v ≡ forecastOf s (h o)
+  value-is : forecastCode s (h o) ≡ 0 → trendLine (tiesToEven (s .model)) (s .level) (s .phi) (s .trend) (h o) +ℤ v ≡ forecastOf s (h o)
   unfolding forecastOf
   value-is e = rw (ahead-is (d o) opens (h o) (forecast-ready 512 s (h o) e .least))
 

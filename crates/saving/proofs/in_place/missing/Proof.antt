@@ -1,10 +1,12 @@
 -- `saving::in_place::missing` meets its contract: the update is that of the state which the slice holds, and what is stored is the next one's snapshot.
 use Prim.Native.Nat.{ℕ}
 use mathlib.Core.Path.{_≡_, refl, sym, ap, ap₂, _∙_}
+use mathlib.Core.Bool.{Bool}
 use mathlib.Core.List.{List}
 use lib.IntN.{ℤ, pos}
 use mir.Syntax.{w64}
 use Rattle.integers.proofs.Difference.{back}
+use Rattle.models.specs.Models.{tiesToEven}
 use Rattle.state.specs.declared.State.{State}
 use Rattle.ets.specs.Steps.{missingCode, afterMissing}
 use Rattle.ets.specs.Updates.{numbersOf, updateMissing}
@@ -38,8 +40,8 @@ module _ (c : tie.After-update-missing) where
   held : Held (d o) (o .opened .result)
   held = holds (d o) _ (goes-by o) (c .before .before .if1 .left)
 
-  update-is : c .update-missing .result ≡ updateMissing (numbersOf (decoded (d o)))
-  update-is = c .update-missing .ensures ∙ ap (λ (n : Numbers). updateMissing n) (held .numbers)
+  update-is : c .update-missing .result ≡ updateMissing (tiesToEven (decoded (d o) .model)) (numbersOf (decoded (d o)))
+  update-is = c .update-missing .ensures ∙ ap₂ (λ (even : Bool) (n : Numbers). updateMissing even n) (held .even) (held .numbers)
 
   code-is : c .update-missing .result .code ≡ missingCode (decoded (d o))
   code-is = ap (λ (u : Update). u .code) update-is ∙ update-missing-code (decoded (d o)) (held .passes)

@@ -1,11 +1,13 @@
 -- `saving::in_place::step` meets its contract: the update is that of the state which the slice holds, and what is stored is the next one's snapshot.
 use Prim.Native.Nat.{ℕ}
-use mathlib.Core.Path.{_≡_, refl, sym, ap, _∙_}
+use mathlib.Core.Path.{_≡_, refl, sym, ap, ap₂, _∙_}
+use mathlib.Core.Bool.{Bool}
 use mathlib.Core.List.{List}
 use lib.IntN.{ℤ}
 use mir.Facts.{toZ-ofZ}
 use mir.Syntax.{w64}
 use Rattle.integers.proofs.Difference.{back}
+use Rattle.models.specs.Models.{tiesToEven}
 use Rattle.state.specs.declared.State.{State}
 use Rattle.ets.specs.Steps.{stepCode, afterReading, residualOf}
 use Rattle.ets.specs.Updates.{numbersOf, update}
@@ -46,8 +48,8 @@ module _ (c : tie.After-update) where
   held : Held (d o) (o .opened .result)
   held = holds (d o) _ (goes-by o) (c .before .before .if1 .left)
 
-  update-is : c .update .result ≡ update (numbersOf (decoded (d o))) (y o)
-  update-is = (rw (toZ-ofZ (o .before .before .before .fits .reading)) at (c .update .ensures)) ∙ ap (λ (n : Numbers). update n (y o)) (held .numbers)
+  update-is : c .update .result ≡ update (tiesToEven (decoded (d o) .model)) (numbersOf (decoded (d o))) (y o)
+  update-is = (rw (toZ-ofZ (o .before .before .before .fits .reading)) at (c .update .ensures)) ∙ ap₂ (λ (even : Bool) (n : Numbers). update even n (y o)) (held .even) (held .numbers)
 
   code-is : c .update .result .code ≡ stepCode (decoded (d o)) (y o)
   code-is = ap (λ (u : Update). u .code) update-is ∙ direct-code (decoded (d o)) (held .passes) (y o)

@@ -1,7 +1,10 @@
-use Prim.Native.Nat.{_*_, _≤_}
-use mathlib.Core.Path.{sym}
+use Prim.Native.Nat.{ℕ, _*_, _≤_}
+use mathlib.Core.Path.{_≡_}
+use mathlib.Core.Bool.{Bool}
 use native.Mathlib.Omega.{arith}
-use Rattle.state.proofs.Rounding.{shareNat-is}
+use lib.IntN.{pos}
+use Rattle.state.specs.Fixed.{R, share, shareNat}
+use Rattle.state.proofs.Rounding.{added-le, shareNat-is}
 use Rattle.weights.proofs.Terms.{product-le}
 use Rattle.weights.proofs.sums.share.Statement.{statement}
 use Rattle.weights.proofs.sums.share.Tie as tie
@@ -9,14 +12,32 @@ use Rattle.weights.proofs.sums.share.Tie as tie
 small : (c : tie.Start) → c .args .a * c .args .x ≤ 65536 * c .args .x
 small c = product-le 65536 (c .args .x) (c .pre .0) (omega arith)
 
-mul-result : tie.Need-mul-result
-mul-result c = omega (arith, small c)
+-- a parameter is at most 1
+shrinks : (even : Bool) (a x : ℕ) → a * x ≤ 65536 * x → shareNat even a x ≤ x
+shrinks even a x h = omega (arith, shareNat-is even a x, added-le even (pos (a * x)))
 
-add-result : tie.Need-add-result
-add-result c = omega (arith, small c)
+mul-v : tie.Need-mul-v
+mul-v c = omega (arith, small c)
+
+round-requires : tie.Need-round-requires
+round-requires c κs = omega (arith, small (c .before))
+
+round-requires-2 : tie.Need-round-requires-2
+round-requires-2 c κs = omega (arith, small (c .before))
 
 returns : tie.Need-returns
-returns c = (sym (shareNat-is (c .args .a) (c .args .x)), omega (arith, small c))
+unfolding share R
+returns c =
+    let s = c .before .before in
+    let e : c .round .result ≡ shareNat (s .args .even) (s .args .a) (s .args .x) = rw (c .before .if1 .taken) (c .round .ensures) in
+    (e, omega (arith, shrinks (s .args .even) (s .args .a) (s .args .x) (small s)))
+
+returns-2 : tie.Need-returns-2
+unfolding share R
+returns-2 c =
+    let s = c .before .before in
+    let e : c .round2 .result ≡ shareNat (s .args .even) (s .args .a) (s .args .x) = rw (c .before .if1 .left) (c .round2 .ensures) in
+    (e, omega (arith, shrinks (s .args .even) (s .args .a) (s .args .x) (small s)))
 
 pub share-spec : {M : Type 1} → statement M
-share-spec = tie.close (tie.spec mul-result add-result returns)
+share-spec = tie.close (tie.spec mul-v round-requires round-requires-2 returns returns-2)

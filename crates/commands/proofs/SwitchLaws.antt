@@ -1,0 +1,37 @@
+-- Command 14 in a stream: its first byte decides it, by the table.
+use Prim.Native.Nat.{ℕ, _+_, _-_, _≤_, _<_}
+use mathlib.Core.Path.{_≡_, refl}
+use mathlib.Core.Bool.{true, false}
+use mathlib.Core.List.{List, []}
+use native.Mathlib.Omega.{arith}
+use borrow.Author.Tests.{lt-leb, le-leb}
+use lib.ListN.{length, getD}
+use Rattle.state.specs.Rejections.{out-of-place}
+use Rattle.state.specs.Switching.{switched, switchToEven}
+use Rattle.state.proofs.Switches.{switch-accepted}
+use Rattle.snapshot.specs.CommandTable.{commandSize, isCommand, onlyInSnapshot, opens}
+use Rattle.decoding.specs.Decoding.{commandCode, operands, decode}
+use Rattle.lines.specs.Lines.{fieldsBytes, lineOf}
+use Rattle.replies.specs.declared.Reply.the-variants as reply-of
+use Rattle.commands.specs.Commands.{accepted, rejected, switchState, perform}
+use Rattle.commands.specs.Promises.{Sound, Switches}
+use Rattle.commands.specs.declared.Session.{Session}
+
+module _ (s : List ℕ) (x : Session) (room : ℕ) (h : x .at < length s) (b : getD s (x .at) 0 ≡ 0x14) where
+  closed : x .active ≡ false → perform s x room ≡ rejected out-of-place (x .at) x
+  unfolding perform decode commandCode isCommand commandSize onlyInSnapshot opens
+  closed e = rw (lt-leb (length s) (x .at) h, b, e)
+
+  open-state : x .active ≡ true → Sound x → perform s x room ≡ accepted reply-of.Silent (x .at + 1) (switched (x .state))
+  unfolding perform decode commandCode isCommand commandSize onlyInSnapshot opens operands switchState
+  open-state e p =
+      let room-left : 1 ≤ length s - x .at = omega arith in
+      rw (lt-leb (length s) (x .at) h, b, e, le-leb 1 (length s - x .at) room-left, switch-accepted (x .state) (p .passes e .checked))
+
+no-line : (saved : List ℕ) → lineOf reply-of.Silent saved ≡ []
+unfolding lineOf fieldsBytes
+no-line saved = refl
+
+pub switches : Switches
+switches =
+    record { unopened = λ s x room h b e. closed s x room h b e; opened = λ s x room h b e p. open-state s x room h b e p; line = no-line }
