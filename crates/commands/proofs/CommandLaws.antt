@@ -13,12 +13,12 @@ use Rattle.state.specs.declared.Outcome.the-variants as outcome-of
 use Rattle.state.proofs.Answers.{outcome-accepted}
 use Rattle.state.proofs.Tests.{then-zero, unless-zero}
 use Rattle.state.proofs.Passing.{bounded}
-use Rattle.snapshot.specs.Answers.{lengthCode, lengthValue}
-use Rattle.snapshot.specs.Layout.{sizeOf}
+use Rattle.layout.specs.Answers.{lengthCode, lengthValue}
+use Rattle.layout.specs.Layout.{sizeOf}
 use Rattle.snapshot.specs.Snapshots.{openCode, openOffset, read, restOf}
-use Rattle.snapshot.specs.declared.Length.the-variants as length-of
+use Rattle.layout.specs.declared.Length.the-variants as length-of
 use Rattle.snapshot.specs.declared.Opened.{Opened}
-use Rattle.snapshot.proofs.AnswerLaws.{lengths}
+use Rattle.layout.proofs.AnswerLaws.{lengths}
 use Rattle.snapshot.proofs.OffsetLaws.{offsets}
 use Rattle.saving.specs.Encoding.{encoded}
 use Rattle.saving.specs.Saving.{bytesNeeded, save, saveCode}

@@ -25,7 +25,7 @@ use Rattle.ets.proofs.Kept.{cells-kept, reading-kept, missing-kept}
 use Rattle.weights.specs.Weights.{variance}
 use Rattle.weights.specs.declared.Variance.{Variance}
 use Rattle.weights.specs.declared.Variance.the-variants as variance-of
-use Rattle.snapshot.specs.CommandTable.{commandSize, opens}
+use Rattle.layout.specs.CommandTable.{commandSize, opens}
 use Rattle.snapshot.specs.Snapshots.{openCode, openOffset, decoded, read}
 use Rattle.saving.specs.Encoding.{encoded}
 use Rattle.saving.specs.Saving.{save, saveCode, savedBytes}

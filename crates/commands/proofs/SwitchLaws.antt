@@ -9,7 +9,7 @@ use lib.ListN.{length, getD}
 use Rattle.state.specs.Rejections.{out-of-place}
 use Rattle.state.specs.Switching.{switched, switchToEven}
 use Rattle.state.proofs.Switches.{switch-accepted}
-use Rattle.snapshot.specs.CommandTable.{commandSize, isCommand, onlyInSnapshot, opens}
+use Rattle.layout.specs.CommandTable.{commandSize, isCommand, onlyInSnapshot, opens}
 use Rattle.decoding.specs.Decoding.{commandCode, operands, decode}
 use Rattle.lines.specs.Lines.{fieldsBytes, lineOf}
 use Rattle.replies.specs.declared.Reply.the-variants as reply-of

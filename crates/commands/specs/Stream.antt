@@ -7,7 +7,7 @@ use lib.ListN.{length}
 use Rattle.state.specs.Rejections.{unless, outcome, input-too-long}
 use Rattle.state.specs.declared.Outcome.{Outcome}
 use Rattle.state.specs.declared.Outcome.the-variants as outcome-of
-use Rattle.snapshot.specs.Layout.{sizeOf}
+use Rattle.layout.specs.Layout.{sizeOf}
 use Rattle.saving.specs.Encoding.{encoded}
 use Rattle.lines.specs.Lines.{lineOf, writeLine, lineBytes}
 use Rattle.replies.specs.declared.Reply.{Reply}

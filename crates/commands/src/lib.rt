@@ -4,6 +4,7 @@ pub mod promises;
 
 use decoding::Command;
 use decoding::decode;
+use layout::MAX_SIZE;
 use lines::Line;
 use lines::write_line;
 use performing::finish;
@@ -16,7 +17,6 @@ use performing::switch_state;
 use performing::take_missing;
 use performing::take_reading;
 use replies::Reply;
-use snapshot::layout::MAX_SIZE;
 use state::INPUT_TOO_LONG;
 use state::Outcome;
 use state::State;

@@ -11,10 +11,10 @@ use lib.Seq.{drop-cons}
 use Rattle.state.specs.Rejections.{unless, _then_, unknown-command, out-of-place, truncated}
 use Rattle.integers.proofs.Tests.{both}
 use Rattle.state.proofs.Tests.{unless-then, unless-zero}
-use Rattle.snapshot.specs.Answers.{lengthAnswer}
-use Rattle.snapshot.specs.Bytes.{fromBytes, unsignedAt}
-use Rattle.snapshot.specs.CommandTable.{commandSize, isCommand, onlyInSnapshot, opens, commandLength}
-use Rattle.snapshot.specs.declared.Length.the-variants as length-of
+use Rattle.layout.specs.Answers.{lengthAnswer}
+use Rattle.layout.specs.Bytes.{fromBytes, unsignedAt}
+use Rattle.layout.specs.CommandTable.{commandSize, isCommand, onlyInSnapshot, opens, commandLength}
+use Rattle.layout.specs.declared.Length.the-variants as length-of
 use Rattle.decoding.specs.Decoding.{commandCode, operands, decoded, decode}
 use Rattle.decoding.specs.declared.Command.the-variants as command-of
 

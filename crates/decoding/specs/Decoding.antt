@@ -7,8 +7,8 @@ use lib.ListN.{length, getD}
 use mir.Syntax.{w32}
 use mir.Val.{toZ}
 use Rattle.state.specs.Rejections.{unless, _then_, unknown-command, out-of-place, truncated}
-use Rattle.snapshot.specs.Bytes.{unsignedAt}
-use Rattle.snapshot.specs.CommandTable.{commandSize, isCommand, onlyInSnapshot, opens}
+use Rattle.layout.specs.Bytes.{unsignedAt}
+use Rattle.layout.specs.CommandTable.{commandSize, isCommand, onlyInSnapshot, opens}
 use Rattle.decoding.specs.declared.Command.{Command}
 use Rattle.decoding.specs.declared.Command.the-variants as command-of
 use Rattle.decoding.specs.declared.Decoded.{Decoded}

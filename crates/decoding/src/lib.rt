@@ -1,11 +1,11 @@
 // The command at an offset of a stream: document 01, "Commands" and "Refusals, in checking order".
 mod operands;
 
+use layout::Length;
+use layout::command_length;
+use layout::only_in_snapshot;
+use layout::opens;
 use operands::operands;
-use snapshot::Length;
-use snapshot::command_length;
-use snapshot::only_in_snapshot;
-use snapshot::opens;
 use state::OUT_OF_PLACE;
 use state::TRUNCATED;
 ghost use mathlib.Core.Path.{_≡_};

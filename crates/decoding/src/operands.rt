@@ -1,13 +1,13 @@
 // Operands of 16 and 32 bits, low byte first, where the stream has so many bytes.
 use super::Command;
-use snapshot::opens;
+use layout::opens;
 ghost use mathlib.Core.Path.{_≡_};
 ghost use Prim.Native.Nat.{_+_, _≤_, _<_};
 ghost use lib.ListN.{length, getD};
 ghost use mir.Syntax.{w32};
 ghost use mir.Val.{toZ};
-ghost use Rattle.snapshot.specs.Bytes.{unsignedAt};
-ghost use Rattle.snapshot.specs.CommandTable.{commandSize};
+ghost use Rattle.layout.specs.Bytes.{unsignedAt};
+ghost use Rattle.layout.specs.CommandTable.{commandSize};
 ghost use Rattle.decoding.specs.Decoding.{operands};
 
 pub fn read_u16(s: &[u8], at: usize) -> u32

@@ -14,8 +14,8 @@ use Rattle.state.specs.Switching.{switchToEven}
 use Rattle.ets.specs.Steps.{dampedTrend, seasonDue, newLevel, newTrend, newSeason, newSeasonal, nextIndex, stepCode, advanced, missingCode, step, missing, residual}
 use Rattle.ets.specs.Batches.{takeCode, afterTake, run, batchRun, batch, batchLevels}
 use Rattle.forecasts.specs.Forecasts.{trendAt, trendLine, seasonAt, forecastOf, forecastList, forecastTo, forecastCellsTo, forecastsTo, forecastCodeTo, forecastsCodeTo}
-use Rattle.snapshot.specs.Bytes.{fromBytes}
-use Rattle.snapshot.specs.CommandTable.{commandSize, isCommand}
+use Rattle.layout.specs.Bytes.{fromBytes}
+use Rattle.layout.specs.CommandTable.{commandSize, isCommand}
 use Rattle.snapshot.specs.Snapshots.{dueCode, modelCode, levelCode, seasonCode, positionCode, scanSeasons, scan, cellsAt, decoded}
 use Rattle.snapshot.specs.Slices.{inPlaceCode}
 use Rattle.saving.specs.Encoding.{toBytes, modelBytes, levelBytes, seasonBytes, seasonsBytes, positionBytes, encoded}

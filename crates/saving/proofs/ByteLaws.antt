@@ -12,7 +12,7 @@ use lib.Seq.{getD-drop, sets, length-take-le}
 use mir.Syntax.{w64}
 use mir.Val.{SFits, ofZ}
 use mir.ValLaws.{ofZ-fits, toZ-ofZ, ofZ-toZ}
-use Rattle.snapshot.specs.Bytes.{AreBytes, fromBytes, unsignedAt, signedAt}
+use Rattle.layout.specs.Bytes.{AreBytes, fromBytes, unsignedAt, signedAt}
 use Rattle.saving.specs.Encoding.{toBytes, signedBytes}
 
 bytes-drop : (a : ℕ) (xs : List ℕ) → AreBytes xs → AreBytes (drop a xs)

@@ -24,8 +24,8 @@ use Rattle.ets.specs.declared.Numbers.{Numbers}
 use Rattle.ets.specs.declared.Update.{Update}
 use Rattle.ets.proofs.StepLaws.{step-facts}
 use Rattle.ets.proofs.UpdateLaws.{update-code, update-is, update-missing-is}
-use Rattle.snapshot.specs.Bytes.{AreBytes}
-use Rattle.snapshot.specs.Layout.{periodIn, seasonIn, indexIn, countIn}
+use Rattle.layout.specs.Bytes.{AreBytes}
+use Rattle.layout.specs.Layout.{periodIn, seasonIn, indexIn, countIn}
 use Rattle.snapshot.specs.Snapshots.{openCode, cellsAt, decoded}
 use Rattle.snapshot.specs.Slices.{inPlaceCode, numbersIn, checkedIn, notOpened, openedIn}
 use Rattle.snapshot.specs.Facts.{Room}

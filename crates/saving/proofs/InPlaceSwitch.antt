@@ -11,7 +11,7 @@ use Rattle.state.specs.Switching.{switched}
 use Rattle.state.specs.declared.State.{State}
 use Rattle.state.proofs.Passing.{passed}
 use Rattle.state.proofs.Switches.{checks-kept}
-use Rattle.snapshot.specs.Bytes.{AreBytes}
+use Rattle.layout.specs.Bytes.{AreBytes}
 use Rattle.snapshot.specs.Snapshots.{decoded}
 use Rattle.snapshot.specs.Slices.{inPlaceCode}
 use Rattle.snapshot.proofs.Accepting.{one-snapshot}

@@ -8,8 +8,8 @@ use native.Mathlib.Omega.{arith}
 use lib.IntN.{ℤ, pos}
 use lib.ListN.{length, length-append, getD, set}
 use lib.Seq.{sets, sets-eq, take-append-add, drop-append-add, take-append-le, drop-append-le, drop-length, getD-set-same, getD-set-other}
-use Rattle.snapshot.specs.CommandTable.{modelLength, seasonLength, positionLength}
-use Rattle.snapshot.specs.Layout.{levelAt, seasonAt, positionAt}
+use Rattle.layout.specs.CommandTable.{modelLength, seasonLength, positionLength}
+use Rattle.layout.specs.Layout.{levelAt, seasonAt, positionAt}
 use Rattle.saving.specs.Encoding.{levelBytes, seasonBytes, seasonsBytes, positionBytes}
 use Rattle.saving.proofs.RoundTrip.{length-level, length-season, length-seasons, length-position}
 

@@ -25,9 +25,9 @@ use Rattle.state.proofs.Tests.{zero-is}
 use Rattle.state.specs.Valid.{Bounded}
 use Rattle.state.proofs.Passing.{Passed, passed, bounded}
 use Rattle.state.proofs.Regions.{region-laws}
-use Rattle.snapshot.specs.Bytes.{AreBytes, unsignedAt}
-use Rattle.snapshot.specs.CommandTable.{opener, modelLength, levelLength, seasonLength, positionLength}
-use Rattle.snapshot.specs.Layout.{modelAt, levelAt, seasonAt, positionAt, sizeOf, outsideIn, modelIn, periodIn, alphaIn, betaIn, gammaIn, phiIn, levelIn, trendIn, seasonIn, indexIn, countIn}
+use Rattle.layout.specs.Bytes.{AreBytes, unsignedAt}
+use Rattle.layout.specs.CommandTable.{opener, modelLength, levelLength, seasonLength, positionLength}
+use Rattle.layout.specs.Layout.{modelAt, levelAt, seasonAt, positionAt, sizeOf, outsideIn, modelIn, periodIn, alphaIn, betaIn, gammaIn, phiIn, levelIn, trendIn, seasonIn, indexIn, countIn}
 use Rattle.snapshot.specs.Snapshots.{openCode, openOffset, cellsAt, decoded, read, restOf}
 use Rattle.snapshot.specs.declared.reading.Scanned.{Scanned}
 use Rattle.snapshot.proofs.Accepting.{Due, Season, Accepted, accepted, accepts, accepted-size, period-most}

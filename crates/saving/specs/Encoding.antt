@@ -8,7 +8,7 @@ use mir.Syntax.{w64}
 use mir.Val.{ofZ}
 use Rattle.models.specs.Models.{modelByte}
 use Rattle.state.specs.declared.State.{State}
-use Rattle.snapshot.specs.CommandTable.{opener}
+use Rattle.layout.specs.CommandTable.{opener}
 
 -- the k low bytes of n, low byte first
 unfoldable pub toBytes : ℕ → ℕ → List ℕ

@@ -11,7 +11,7 @@ use Rattle.state.specs.States.{check}
 use Rattle.ets.specs.Steps.{nextIndex}
 use Rattle.ets.specs.Updates.{numbersOf}
 use Rattle.ets.specs.declared.Update.{Update}
-use Rattle.snapshot.specs.Layout.{levelAt, seasonAt, positionAt, seasonIn}
+use Rattle.layout.specs.Layout.{levelAt, seasonAt, positionAt, seasonIn}
 use Rattle.snapshot.specs.Snapshots.{decoded}
 use Rattle.snapshot.specs.Slices.{inPlaceCode}
 use Rattle.snapshot.specs.Facts.{Room}

@@ -13,9 +13,9 @@ use Rattle.state.specs.declared.State.{State}
 use Rattle.state.specs.declared.Outcome.the-variants as outcome-of
 use Rattle.ets.specs.Steps.{stepCode, residualOf, missingCode, step, missing}
 use Rattle.forecasts.specs.Forecasts.{forecastCode, forecastOf}
-use Rattle.snapshot.specs.Bytes.{AreBytes}
-use Rattle.snapshot.specs.CommandTable.{opener}
-use Rattle.snapshot.specs.Layout.{modelAt, sizeOf}
+use Rattle.layout.specs.Bytes.{AreBytes}
+use Rattle.layout.specs.CommandTable.{opener}
+use Rattle.layout.specs.Layout.{modelAt, sizeOf}
 use Rattle.snapshot.specs.Snapshots.{openCode, openOffset, decoded, read, restOf}
 use Rattle.snapshot.specs.Slices.{inPlaceCode}
 use Rattle.saving.specs.Encoding.{encoded}

@@ -8,9 +8,9 @@ use Rattle.state.specs.Rejections.{unless, _then_, outcome, short-buffer, accep
 use Rattle.state.specs.States.{check}
 use Rattle.state.specs.declared.State.{State}
 use Rattle.state.specs.declared.Outcome.{Outcome}
-use Rattle.snapshot.specs.Answers.{lengthAnswer}
-use Rattle.snapshot.specs.Layout.{modelAt, sizeOf}
-use Rattle.snapshot.specs.declared.Length.{Length}
+use Rattle.layout.specs.Answers.{lengthAnswer}
+use Rattle.layout.specs.Layout.{modelAt, sizeOf}
+use Rattle.layout.specs.declared.Length.{Length}
 use Rattle.saving.specs.Encoding.{encoded}
 
 -- the bytes needed are told before anything is written

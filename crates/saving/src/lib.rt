@@ -4,8 +4,8 @@ pub mod in_place;
 pub mod promises;
 mod writing;
 
-use snapshot::Length;
-use snapshot::layout::size_of;
+use layout::Length;
+use layout::size_of;
 use state::Outcome;
 use state::SHORT_BUFFER;
 use state::State;

@@ -15,8 +15,8 @@ use Rattle.state.specs.States.{parametersCode, trendOk, indexOk, countOk}
 use Rattle.state.proofs.Passing.{period-le}
 use Rattle.integers.proofs.Tests.{both}
 use Rattle.state.proofs.Tests.{unless-zero, then-zero}
-use Rattle.snapshot.specs.CommandTable.{commandSize, isCommand, opener, modelLength, levelLength, seasonLength, positionLength}
-use Rattle.snapshot.specs.Layout.{modelAt, levelAt, seasonAt, positionAt, sizeOf, outsideIn, modelIn, periodIn, alphaIn, betaIn, gammaIn, phiIn, levelIn, trendIn, seasonIndexIn, seasonIn, indexIn, countIn}
+use Rattle.layout.specs.CommandTable.{commandSize, isCommand, opener, modelLength, levelLength, seasonLength, positionLength}
+use Rattle.layout.specs.Layout.{modelAt, levelAt, seasonAt, positionAt, sizeOf, outsideIn, modelIn, periodIn, alphaIn, betaIn, gammaIn, phiIn, levelIn, trendIn, seasonIndexIn, seasonIn, indexIn, countIn}
 use Rattle.snapshot.specs.Snapshots.{dueCode, modelCode, levelCode, seasonCode, positionCode, finished, scanPosition, scanSeasons, scan, openCode, openOffset}
 use Rattle.snapshot.specs.Slices.{inPlaceCode}
 use Rattle.snapshot.specs.Facts.{Room}

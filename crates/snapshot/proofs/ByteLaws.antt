@@ -7,7 +7,7 @@ use native.Mathlib.Numerals.{add-one}
 use native.Mathlib.Omega.{arith}
 use lib.ListN.{length, length-drop, take, drop, getD}
 use lib.Seq.{drop-cons, take-all}
-use Rattle.snapshot.specs.Bytes.{fromBytes}
+use Rattle.layout.specs.Bytes.{fromBytes}
 
 -- one byte more, from the top down: what a turn of `read_le` adds
 pub fromBytes-more : (s : List ℕ) (at k i : ℕ) → i < k → at + k ≤ length s

@@ -15,7 +15,7 @@ use Rattle.state.specs.Fixed.{inRange, isZero}
 use Rattle.state.specs.States.{check, cellOk}
 use Rattle.integers.proofs.Tests.{both, allBelow-all}
 use Rattle.state.proofs.Passing.{passes, no-state}
-use Rattle.snapshot.specs.Layout.{periodIn, seasonIn}
+use Rattle.layout.specs.Layout.{periodIn, seasonIn}
 use Rattle.snapshot.specs.Snapshots.{openCode, cellsAt, decoded, read}
 use Rattle.snapshot.specs.Promises.{RejectedState}
 use Rattle.snapshot.proofs.Accepting.{Accepted, accepted, period-most}

@@ -1,5 +1,4 @@
 pub mod Accepting
-pub mod AnswerLaws
 pub mod ByteLaws
 pub mod Decoded
 pub mod OffsetLaws

@@ -12,8 +12,8 @@ use Rattle.state.specs.Rejections.{unless, _then_, truncated, unknown-command, 
 use Rattle.state.specs.Fixed.{inRange}
 use Rattle.models.specs.Models.{validModel, periodOk, parametersOk, usualGains}
 use Rattle.state.specs.States.{parametersCode, trendOk, indexOk, countOk}
-use Rattle.snapshot.specs.CommandTable.{commandSize, isCommand, opener}
-use Rattle.snapshot.specs.Layout.{modelAt, levelAt, seasonAt, positionAt, sizeOf, outsideIn, modelIn, periodIn, alphaIn, betaIn, gammaIn, phiIn, levelIn, trendIn, seasonIndexIn, seasonIn, indexIn, countIn}
+use Rattle.layout.specs.CommandTable.{commandSize, isCommand, opener}
+use Rattle.layout.specs.Layout.{modelAt, levelAt, seasonAt, positionAt, sizeOf, outsideIn, modelIn, periodIn, alphaIn, betaIn, gammaIn, phiIn, levelIn, trendIn, seasonIndexIn, seasonIn, indexIn, countIn}
 use Rattle.snapshot.specs.Snapshots.{dueCode, modelCode, levelCode, seasonCode, positionCode, finished, scanPosition, scanSeasons, scan}
 use Rattle.snapshot.specs.Promises.{Offsets}
 use Rattle.snapshot.specs.declared.reading.Scanned.{Scanned}

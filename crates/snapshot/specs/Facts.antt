@@ -2,7 +2,7 @@
 use Prim.Native.Nat.{ℕ, _≤_}
 use mathlib.Core.List.{List}
 use lib.ListN.{length}
-use Rattle.snapshot.specs.Layout.{sizeOf}
+use Rattle.layout.specs.Layout.{sizeOf}
 
 -- the slice reaches to the end of a snapshot of m season values, and index p is one of them (0 without season)
 pub record Room (s : List ℕ) (m p : ℕ) : Type 0 where

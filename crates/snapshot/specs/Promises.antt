@@ -1,14 +1,12 @@
--- The promises about reading: the state beside a rejection, the offset that a rejection is told with, the enum Length, and a snapshot's length.
-use Prim.Native.Nat.{ℕ, _+_, _*_, _≤_, _<_}
+-- The promises about reading: the state beside a rejection, and the offset that a rejection is told with.
+use Prim.Native.Nat.{ℕ, _+_, _≤_, _<_}
 use mathlib.Core.Path.{_≡_}
 use mathlib.Core.Logic.{_⊎_}
 use mathlib.Core.List.{List}
 use lib.ListN.{length, getD}
 use Rattle.state.specs.Rejections.{truncated, bad-model}
 use Rattle.state.specs.States.{check}
-use Rattle.snapshot.specs.Answers.{LengthCases}
-use Rattle.snapshot.specs.CommandTable.{commandSize}
-use Rattle.snapshot.specs.Layout.{sizeOf}
+use Rattle.layout.specs.CommandTable.{commandSize}
 use Rattle.snapshot.specs.Snapshots.{openCode, openOffset, read}
 
 -- the state beside a rejection is one that every check refuses
@@ -22,11 +20,3 @@ pub record Located (s : List ℕ) : Type 0 where
 
 abbrev pub Offsets : Type 0
 Offsets = (s : List ℕ) → Located s
-
--- each case of the enum Length is told by its number and its value
-abbrev pub Lengths : Type 0
-Lengths = (n v : ℕ) → LengthCases n v
-
--- the formula of document 02, W-203
-abbrev pub Sizes : Type 0
-Sizes = (m : ℕ) → sizeOf m ≡ 46 + 10 * m

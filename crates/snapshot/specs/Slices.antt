@@ -10,8 +10,8 @@ use Rattle.models.specs.Models.{tiesToEven}
 use Rattle.state.specs.States.{noState}
 use Rattle.state.specs.declared.Answer.{Answer}
 use Rattle.ets.specs.declared.Numbers.{Numbers}
-use Rattle.snapshot.specs.CommandTable.{seasonLength}
-use Rattle.snapshot.specs.Layout.{seasonAt, modelIn, periodIn, alphaIn, betaIn, gammaIn, phiIn, levelIn, trendIn, seasonIn, indexIn, countIn}
+use Rattle.layout.specs.CommandTable.{seasonLength}
+use Rattle.layout.specs.Layout.{seasonAt, modelIn, periodIn, alphaIn, betaIn, gammaIn, phiIn, levelIn, trendIn, seasonIn, indexIn, countIn}
 use Rattle.snapshot.specs.Snapshots.{openCode, openOffset, decoded}
 use Rattle.snapshot.specs.declared.Checked.{Checked}
 use Rattle.snapshot.specs.declared.Opened.{Opened}

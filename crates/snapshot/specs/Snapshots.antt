@@ -10,8 +10,8 @@ use Rattle.state.specs.Fixed.{inRange}
 use Rattle.models.specs.Models.{validModel, periodOk}
 use Rattle.state.specs.States.{parametersCode, trendOk, indexOk, countOk, noState}
 use Rattle.state.specs.declared.State.{State}
-use Rattle.snapshot.specs.CommandTable.{commandSize, isCommand, opener}
-use Rattle.snapshot.specs.Layout.{modelAt, levelAt, seasonAt, positionAt, sizeOf, outsideIn, modelIn, periodIn, alphaIn, betaIn, gammaIn, phiIn, levelIn, trendIn, seasonIndexIn, seasonIn, indexIn, countIn}
+use Rattle.layout.specs.CommandTable.{commandSize, isCommand, opener}
+use Rattle.layout.specs.Layout.{modelAt, levelAt, seasonAt, positionAt, sizeOf, outsideIn, modelIn, periodIn, alphaIn, betaIn, gammaIn, phiIn, levelIn, trendIn, seasonIndexIn, seasonIn, indexIn, countIn}
 use Rattle.snapshot.specs.declared.Opened.{Opened}
 use Rattle.snapshot.specs.declared.reading.Scanned.{Scanned}
 

@@ -4,7 +4,7 @@ ghost use Prim.Native.Nat.{_+_, _^_, _≤_, _<_};
 ghost use lib.ListN.{length};
 ghost use mir.Syntax.{w64};
 ghost use mir.Val.{toZ};
-ghost use Rattle.snapshot.specs.Bytes.{unsignedAt, signedAt};
+ghost use Rattle.layout.specs.Bytes.{unsignedAt, signedAt};
 
 fn wide(b: u8) -> u64
     ensures value { λ r. ⌜ r ≡ b ⌝ }

@@ -1,11 +1,9 @@
 // Reading a snapshot: document 01, "Commands". A snapshot is the paper's group.
 mod bytes;
 mod fields;
-pub mod layout;
 pub mod promises;
 mod reading;
 pub mod slices;
-mod table;
 
 use ets::Numbers;
 use fields::state_at;
@@ -13,11 +11,6 @@ use reading::scan;
 use state::Outcome;
 use state::State;
 use state::no_state;
-pub use table::command_length;
-pub use table::is_command;
-pub use table::only_in_snapshot;
-pub use table::opener;
-pub use table::opens;
 ghost use mathlib.Core.Path.{_≡_};
 ghost use Rattle.snapshot.specs.Snapshots.{openCode, read, restOf};
 
@@ -35,12 +28,6 @@ pub struct Checked {
     pub period: u8,
     pub index: u8,
     pub numbers: Numbers,
-}
-
-// The bytes that a state's snapshot needs, or those of a command.
-pub enum Length {
-    Bytes(usize),
-    Rejected(u8),
 }
 
 // The snapshot at the front of a stream.

@@ -1,7 +1,7 @@
 -- `decoding::decode` meets its contract.
 use borrow.Author.Needs.{needs}
 use Rattle.decoding.proofs.DecodingLaws.{table-bytes, table-rejected, decode-end, decode-unknown, decode-stray, decode-short, decode-whole}
-use Rattle.snapshot.specs.CommandTable.{commandSize, isCommand}
+use Rattle.layout.specs.CommandTable.{commandSize, isCommand}
 use lib.ListN.{getD}
 use borrow.Author.Tests.{not-true, not-false}
 use native.Mathlib.Omega.{arith}

@@ -4,7 +4,7 @@ use native.Mathlib.Omega.{arith}
 use lib.ListN.{length}
 use borrow.Author.Tests.{eq-eqb, ne-eqb, le-leb, lt-leb}
 use Rattle.state.proofs.Passing.{bounded}
-use Rattle.snapshot.specs.Layout.{sizeOf}
+use Rattle.layout.specs.Layout.{sizeOf}
 use Rattle.saving.specs.Saving.{save, saveCode, savedBytes}
 use borrow.Author.Needs.{needs}
 use Rattle.saving.proofs.save.Statement.{statement}

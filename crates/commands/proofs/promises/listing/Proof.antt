@@ -6,8 +6,8 @@ use Rattle.state.specs.States.{check, parametersCode, noState}
 use Rattle.ets.specs.Steps.{dampedTrend, seasonDue, residual, newLevel, newTrend, newSeason, newSeasonal, nextIndex, missingCode, stepCode, step}
 use Rattle.forecasts.specs.Forecasts.{trendAt, trendLine, seasonAt, forecastOf, forecastCodeTo, forecastTo}
 use Rattle.weights.specs.Weights.{dampingSum, trendTerm, seasonTerm, coefficient, squares, weightOf, weight, variance}
-use Rattle.snapshot.specs.Bytes.{fromBytes}
-use Rattle.snapshot.specs.CommandTable.{commandSize, isCommand, onlyInSnapshot, opens}
+use Rattle.layout.specs.Bytes.{fromBytes}
+use Rattle.layout.specs.CommandTable.{commandSize, isCommand, onlyInSnapshot, opens}
 use Rattle.snapshot.specs.Snapshots.{dueCode, modelCode, levelCode, positionCode, scanSeasons, scan, cellsAt, decoded, read}
 use Rattle.decoding.specs.Decoding.{commandCode, operands, decode}
 use Rattle.lines.specs.Lines.{digits, digitCount, decimal, signedDecimal, fieldsBytes, lineOf}

@@ -2,7 +2,7 @@
 use borrow.Author.Needs.{needs}
 use Rattle.decoding.specs.declared.Command.the-variants as command-of
 use Rattle.decoding.specs.Decoding.{operands}
-use Rattle.snapshot.specs.CommandTable.{commandSize, opens}
+use Rattle.layout.specs.CommandTable.{commandSize, opens}
 use mir.ValLaws.{toZ-ofZ}
 use mir.Syntax.{w32}
 use borrow.Author.Tests.{ne-eqb}

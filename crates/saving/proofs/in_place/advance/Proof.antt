@@ -5,7 +5,7 @@ use mathlib.Core.List.{List}
 use lib.IntN.{ℤ}
 use lib.Seq.{sets}
 use mir.Facts.{toZ-ofZ}
-use Rattle.snapshot.specs.Layout.{levelAt}
+use Rattle.layout.specs.Layout.{levelAt}
 use Rattle.saving.specs.Encoding.{levelBytes}
 use Rattle.saving.specs.Facts.{movedOn}
 use borrow.Author.Needs.{needs}

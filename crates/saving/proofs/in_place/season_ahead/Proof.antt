@@ -10,8 +10,8 @@ use lib.IntN.{ℤ}
 use mir.Syntax.{w64}
 use mir.ValLaws.{toZ-ofZ}
 use borrow.Author.Tests.{eqb-false, le-leb}
-use Rattle.snapshot.specs.CommandTable.{seasonLength}
-use Rattle.snapshot.specs.Layout.{seasonAt, seasonIn}
+use Rattle.layout.specs.CommandTable.{seasonLength}
+use Rattle.layout.specs.Layout.{seasonAt, seasonIn}
 use Rattle.snapshot.specs.Slices.{seasonValue}
 use Rattle.state.specs.declared.Answer.the-variants as answer-of
 use borrow.Author.Needs.{needs}

@@ -9,7 +9,7 @@ use Rattle.state.specs.States.{check}
 use Rattle.state.specs.Switching.{switched}
 use Rattle.state.specs.declared.State.{State}
 use Rattle.state.proofs.Tests.{then-first}
-use Rattle.snapshot.specs.Bytes.{AreBytes}
+use Rattle.layout.specs.Bytes.{AreBytes}
 use Rattle.snapshot.specs.Slices.{inPlaceCode}
 use Rattle.snapshot.proofs.Accepting.{accepted-room, one-snapshot}
 use Rattle.saving.specs.InPlace.{rejection, inPlaceSwitchCode, inPlaceSwitchBytes}

@@ -5,7 +5,7 @@ use mathlib.Core.List.{[], _∷_, _++_}
 use mir.Syntax.{w64}
 use mir.Val.{ofZ}
 use mir.ValLaws.{toZ-ofZ}
-use Rattle.snapshot.specs.Layout.{levelAt}
+use Rattle.layout.specs.Layout.{levelAt}
 use Rattle.saving.specs.Encoding.{signedBytes, levelBytes}
 use Rattle.saving.proofs.ByteLaws.{length-toBytes, follow}
 use borrow.Author.Needs.{needs}

@@ -8,7 +8,7 @@ use lib.ListN.{length, getD}
 use lib.Seq.{sets}
 use mir.Syntax.{w64}
 use mir.ValLaws.{toZ-ofZ}
-use Rattle.snapshot.specs.Layout.{seasonAt}
+use Rattle.layout.specs.Layout.{seasonAt}
 use Rattle.saving.specs.Encoding.{seasonBytes, seasonsBytes}
 use Rattle.saving.proofs.ByteLaws.{follow}
 use Rattle.saving.proofs.RoundTrip.{length-seasons}

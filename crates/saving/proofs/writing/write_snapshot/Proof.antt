@@ -4,7 +4,7 @@ use mathlib.Core.Path.{ap}
 use mathlib.Core.List.{_++_}
 use mir.Syntax.{w64}
 use Rattle.integers.proofs.Difference.{back}
-use Rattle.snapshot.specs.Layout.{modelAt, levelAt, seasonAt}
+use Rattle.layout.specs.Layout.{modelAt, levelAt, seasonAt}
 use Rattle.saving.specs.Encoding.{modelBytes, levelBytes, seasonsBytes, positionBytes, encoded}
 use Rattle.saving.proofs.ByteLaws.{follow}
 use Rattle.saving.proofs.RoundTrip.{length-model, length-level, length-seasons}

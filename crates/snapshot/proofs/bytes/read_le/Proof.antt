@@ -5,7 +5,7 @@ use native.Mathlib.Nat.{sub-self, add-zero, pow-suc, pow-le-pow-right, lt-of-lt-
 use native.Mathlib.Numerals.{add-one}
 use native.Mathlib.Omega.{arith}
 use lib.Dec.{lit<}
-use Rattle.snapshot.specs.Bytes.{fromBytes, unsignedAt}
+use Rattle.layout.specs.Bytes.{fromBytes, unsignedAt}
 use Rattle.snapshot.proofs.ByteLaws.{fromBytes-more}
 use borrow.Author.Needs.{needs}
 use Rattle.snapshot.proofs.bytes.read_le.Statement.{statement}

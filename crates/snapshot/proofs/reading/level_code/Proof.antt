@@ -1,8 +1,8 @@
 -- `snapshot::reading::level_code` meets its contract: each return goes by the tests that led there.
 use mathlib.Core.Path.{refl, sym, _∙_}
 use borrow.Author.Tests.{eq-eqb, ne-eqb}
-use Rattle.snapshot.specs.CommandTable.{isCommand, commandSize}
-use Rattle.snapshot.specs.Layout.{levelAt}
+use Rattle.layout.specs.CommandTable.{isCommand, commandSize}
+use Rattle.layout.specs.Layout.{levelAt}
 use Rattle.snapshot.specs.Snapshots.{levelCode}
 use Rattle.snapshot.proofs.Accepting.{due}
 use borrow.Author.Needs.{needs}

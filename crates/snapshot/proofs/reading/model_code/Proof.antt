@@ -5,8 +5,8 @@ use native.Mathlib.Omega.{arith}
 use lib.ListN.{length}
 use borrow.Author.Tests.{eq-eqb, ne-eqb}
 use Rattle.state.proofs.Tests.{then-assoc}
-use Rattle.snapshot.specs.CommandTable.{opener, modelLength}
-use Rattle.snapshot.specs.Layout.{modelAt, outsideIn}
+use Rattle.layout.specs.CommandTable.{opener, modelLength}
+use Rattle.layout.specs.Layout.{modelAt, outsideIn}
 use Rattle.snapshot.specs.Snapshots.{dueCode, modelCode}
 use Rattle.snapshot.proofs.Accepting.{due, opener-size, opener-command}
 use borrow.Author.Needs.{needs}

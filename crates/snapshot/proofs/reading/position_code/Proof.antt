@@ -5,7 +5,7 @@ use native.Mathlib.Omega.{arith}
 use lib.Dec.{lit≤}
 use lib.ListN.{length}
 use borrow.Author.Tests.{eq-eqb, ne-eqb}
-use Rattle.snapshot.specs.CommandTable.{isCommand, commandSize, positionLength}
+use Rattle.layout.specs.CommandTable.{isCommand, commandSize, positionLength}
 use Rattle.snapshot.specs.Snapshots.{positionCode}
 use Rattle.snapshot.proofs.Accepting.{due}
 use borrow.Author.Needs.{needs}

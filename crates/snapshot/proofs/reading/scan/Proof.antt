@@ -4,7 +4,7 @@ use mathlib.Core.Path.{sym, _∙_}
 use native.Mathlib.Omega.{arith}
 use lib.ListN.{length}
 use borrow.Author.Tests.{eq-eqb, ne-eqb}
-use Rattle.snapshot.specs.CommandTable.{modelLength}
+use Rattle.layout.specs.CommandTable.{modelLength}
 use Rattle.snapshot.specs.Snapshots.{scan}
 use Rattle.snapshot.proofs.Accepting.{model}
 use borrow.Author.Needs.{needs}

@@ -7,7 +7,7 @@ use native.Mathlib.Numerals.{add-one}
 use native.Mathlib.Omega.{arith}
 use borrow.Author.Needs.{needs}
 use borrow.Author.Tests.{ne-eqb}
-use Rattle.snapshot.specs.Layout.{seasonAt}
+use Rattle.layout.specs.Layout.{seasonAt}
 use Rattle.snapshot.specs.Snapshots.{seasonCode, scanPosition, scanSeasons}
 use Rattle.snapshot.specs.declared.reading.Scanned.{Scanned}
 use Rattle.snapshot.proofs.reading.scan_seasons.Statement.{statement}

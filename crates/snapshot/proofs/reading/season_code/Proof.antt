@@ -6,7 +6,7 @@ use lib.ListN.{length}
 use borrow.Author.Tests.{eq-eqb, ne-eqb}
 use mir.Syntax.{w64}
 use Rattle.integers.proofs.Difference.{back}
-use Rattle.snapshot.specs.CommandTable.{isCommand, commandSize, seasonLength}
+use Rattle.layout.specs.CommandTable.{isCommand, commandSize, seasonLength}
 use Rattle.snapshot.specs.Snapshots.{seasonCode}
 use Rattle.snapshot.proofs.Accepting.{due}
 use borrow.Author.Needs.{needs}

@@ -5,8 +5,8 @@ use lib.ListN.{length}
 use mir.Syntax.{w64}
 use borrow.Author.Tests.{le-leb, lt-leb}
 use Rattle.integers.proofs.Difference.{back}
-use Rattle.snapshot.specs.CommandTable.{seasonLength}
-use Rattle.snapshot.specs.Layout.{seasonAt}
+use Rattle.layout.specs.CommandTable.{seasonLength}
+use Rattle.layout.specs.Layout.{seasonAt}
 use Rattle.snapshot.specs.Slices.{seasonValue}
 use borrow.Author.Needs.{needs}
 use Rattle.snapshot.proofs.slices.season_value.Statement.{statement}

@@ -1,6 +1,6 @@
 use native.Mathlib.Omega.{arith}
-use Rattle.snapshot.proofs.promises.sizes.Statement.{statement}
-use Rattle.snapshot.proofs.promises.sizes.Tie as tie
+use Rattle.layout.proofs.promises.sizes.Statement.{statement}
+use Rattle.layout.proofs.promises.sizes.Tie as tie
 
 returns : tie.Need-returns
 returns c m = omega arith

@@ -1,11 +1,27 @@
-// Where each command of a snapshot stands, and how long a snapshot is: these numbers stand nowhere else.
-use super::table::LEVEL_LENGTH;
-use super::table::MODEL_LENGTH;
-use super::table::POSITION_LENGTH;
-use super::table::SEASON_LENGTH;
+// The commands of a stream, where each of a snapshot stands, and how long a snapshot is: document 01, "Commands". These numbers stand nowhere else.
+pub mod promises;
+mod table;
+
 use models::MAX_PERIOD;
+pub use table::Entry;
+use table::LEVEL_LENGTH;
+use table::MODEL_LENGTH;
+pub use table::POSITION_LENGTH;
+pub use table::SEASON_LENGTH;
+pub use table::command_length;
+pub use table::entry_of;
+pub use table::is_command;
+pub use table::only_in_snapshot;
+pub use table::opener;
+pub use table::opens;
 ghost use mathlib.Core.Path.{_≡_};
-ghost use Rattle.snapshot.specs.Layout.{seasonAt, sizeOf};
+ghost use Rattle.layout.specs.Layout.{seasonAt, sizeOf};
+
+// The bytes that a state's snapshot needs, or those of a command.
+pub enum Length {
+    Bytes(usize),
+    Rejected(u8),
+}
 
 pub const MODEL_AT: usize = 0;
 

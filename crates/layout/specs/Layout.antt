@@ -6,8 +6,8 @@ use mathlib.Core.List.{List}
 use lib.Dec.{eqb}
 use lib.IntN.{ℤ}
 use lib.ListN.{getD}
-use Rattle.snapshot.specs.Bytes.{unsignedAt, signedAt}
-use Rattle.snapshot.specs.CommandTable.{opener, modelLength, levelLength, seasonLength, positionLength}
+use Rattle.layout.specs.Bytes.{unsignedAt, signedAt}
+use Rattle.layout.specs.CommandTable.{opener, modelLength, levelLength, seasonLength, positionLength}
 
 -- ---- where each command stands
 abbrev pub modelAt : ℕ

@@ -1,9 +1,9 @@
--- `snapshot::table::entry_of` meets its contract: each arm is a row of the table.
+-- `layout::table::entry_of` meets its contract: each arm is a row of the table.
 use mathlib.Core.Path.{refl}
 use borrow.Author.Tests.{ne-eqb}
-use Rattle.snapshot.specs.CommandTable.{commandSize, onlyInSnapshot}
-use Rattle.snapshot.proofs.table.entry_of.Statement.{statement}
-use Rattle.snapshot.proofs.table.entry_of.Tie as tie
+use Rattle.layout.specs.CommandTable.{commandSize, onlyInSnapshot}
+use Rattle.layout.proofs.table.entry_of.Statement.{statement}
+use Rattle.layout.proofs.table.entry_of.Tie as tie
 
 returns : tie.Need-returns
 unfolding commandSize onlyInSnapshot

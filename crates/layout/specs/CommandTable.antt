@@ -4,8 +4,8 @@ use mathlib.Core.Bool.{Bool, true, false, cond, not, _||_}
 use mathlib.Core.List.{List, [], _∷_}
 use lib.Dec.{eqb}
 use Rattle.state.specs.Rejections.{unless, unknown-command}
-use Rattle.snapshot.specs.declared.Length.{Length}
-use Rattle.snapshot.specs.Answers.{lengthAnswer}
+use Rattle.layout.specs.declared.Length.{Length}
+use Rattle.layout.specs.Answers.{lengthAnswer}
 
 -- model byte, m byte, A, B, G, F of 32 bits
 abbrev pub modelLength : ℕ

@@ -2,7 +2,7 @@
 use super::Length;
 use state::UNKNOWN_COMMAND;
 ghost use mathlib.Core.Path.{_≡_};
-ghost use Rattle.snapshot.specs.CommandTable.{commandSize, isCommand, onlyInSnapshot, opener, opens, commandLength};
+ghost use Rattle.layout.specs.CommandTable.{commandSize, isCommand, onlyInSnapshot, opener, opens, commandLength};
 
 pub const MODEL_LENGTH: usize = 19;
 

@@ -1,5 +1,5 @@
-use Rattle.snapshot.proofs.table.opener.Statement.{statement}
-use Rattle.snapshot.proofs.table.opener.Tie as tie
+use Rattle.layout.proofs.table.opener.Statement.{statement}
+use Rattle.layout.proofs.table.opener.Tie as tie
 
 returns : tie.Need-returns
 returns c = rw (c .if1 .taken)

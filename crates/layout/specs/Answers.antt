@@ -2,8 +2,8 @@
 use Prim.Native.Nat.{ℕ}
 use mathlib.Core.Path.{_≡_}
 use Rattle.state.specs.Rejections.{accepting}
-use Rattle.snapshot.specs.declared.Length.{Length}
-use Rattle.snapshot.specs.declared.Length.the-variants as length-of
+use Rattle.layout.specs.declared.Length.{Length}
+use Rattle.layout.specs.declared.Length.the-variants as length-of
 
 -- n bytes where the rejection is 0, else the rejection
 abbrev pub lengthAnswer : ℕ → ℕ → Length

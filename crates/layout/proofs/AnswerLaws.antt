@@ -3,7 +3,7 @@ use Prim.Native.Nat.{zero, suc}
 use mathlib.Core.Path.{refl}
 use native.Mathlib.Omega.{arith}
 use lib.Dec.{eqb·suc-zero}
-use Rattle.snapshot.specs.Promises.{Lengths}
+use Rattle.layout.specs.Promises.{Lengths}
 
 pub lengths : Lengths
 lengths zero v = record { code = refl; value = λ z. refl }

@@ -1,8 +1,8 @@
--- `snapshot::table::is_command` meets its contract.
-use Rattle.snapshot.specs.CommandTable.{isCommand}
+-- `layout::table::is_command` meets its contract.
+use Rattle.layout.specs.CommandTable.{isCommand}
 use borrow.Author.Needs.{needs}
-use Rattle.snapshot.proofs.table.is_command.Statement.{statement}
-use Rattle.snapshot.proofs.table.is_command.Tie as tie
+use Rattle.layout.proofs.table.is_command.Statement.{statement}
+use Rattle.layout.proofs.table.is_command.Tie as tie
 
 returns : tie.Need-returns
 unfolding isCommand

@@ -1,9 +1,9 @@
--- `snapshot::table::command_length` meets its contract.
+-- `layout::table::command_length` meets its contract.
 use borrow.Author.Tests.{ne-eqb}
-use Rattle.snapshot.specs.CommandTable.{isCommand, commandLength}
+use Rattle.layout.specs.CommandTable.{isCommand, commandLength}
 use borrow.Author.Needs.{needs}
-use Rattle.snapshot.proofs.table.command_length.Statement.{statement}
-use Rattle.snapshot.proofs.table.command_length.Tie as tie
+use Rattle.layout.proofs.table.command_length.Statement.{statement}
+use Rattle.layout.proofs.table.command_length.Tie as tie
 
 returns : tie.Need-returns
 unfolding isCommand commandLength

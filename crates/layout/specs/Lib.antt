@@ -1,0 +1,5 @@
+pub mod Answers
+pub mod Bytes
+pub mod CommandTable
+pub mod Layout
+pub mod Promises

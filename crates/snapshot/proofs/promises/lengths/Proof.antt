@@ -1,9 +1,0 @@
-use Rattle.snapshot.proofs.AnswerLaws.{lengths}
-use Rattle.snapshot.proofs.promises.lengths.Statement.{statement}
-use Rattle.snapshot.proofs.promises.lengths.Tie as tie
-
-returns : tie.Need-returns
-returns c = lengths
-
-pub lengths-spec : {M : Type 1} → statement M
-lengths-spec = tie.close (tie.spec returns)
