@@ -1,5 +1,6 @@
 /* The benchmark's entry points, of crates/bench_calls: calls that the station's C interface does not have, on a slice that
- * holds one group. Each returns 0 or the refusal's number: 2 to 10 and 16 of the group, 3 for any byte after it, then its own. */
+ * holds one group. Each returns 0 or the refusal's number: 2 to 10, 16 and 17 of the group, 3 for any byte after it (for more
+ * than 25 after an old one, without command 15), then its own. */
 #ifndef BENCH_CALLS_H
 #define BENCH_CALLS_H
 

@@ -15,6 +15,7 @@
 #define ref_batch NAME(VERSION, batch)
 #define ref_switch_to_even NAME(VERSION, switch_to_even)
 #define ref_group NAME(VERSION, group)
+#define ref_old_group NAME(VERSION, old_group)
 #include "reference.c"
 
 const struct calls NAME(VERSION, calls) = {QUOTED(VERSION), ref_step, ref_missing, ref_forecast, ref_forecasts, ref_weight, ref_batch};

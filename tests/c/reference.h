@@ -2,15 +2,19 @@
  * batch, all horizons and the weight, on a slice that holds one group. The group is checked where it lies and only what a
  * call moves is written. The tests compare the proved calls with these, and the benchmark measures both.
  *
- * Each call returns 0 or the number of the first refusal in checking order: 2 to 10 and 16 of the group, 3 for any byte
- * after it, then the call's own. A refused call writes nothing, but for a batch: see there. */
+ * An old group, without command 15 (W-204), may have up to 25 bytes after it, which are not looked at. The calls that write
+ * the group, a reading, a missing reading and the switch, need those 25, else they are refusal 12, and leave the new form.
+ *
+ * Each call returns 0 or the number of the first refusal in checking order: 2 to 10, 16 and 17 of the group, 3 for any byte
+ * after it, or more than 25 after an old one, 12 as above, then the call's own. A refused call writes nothing, but for a
+ * batch: see there. */
 #ifndef REFERENCE_H
 #define REFERENCE_H
 
 #include <stddef.h>
 #include <stdint.h>
 
-enum { REF_MOST_SEASON = 48, REF_MOST_HORIZON = 512, REF_GROUP_MOST = 46 + 10 * REF_MOST_SEASON };
+enum { REF_MOST_SEASON = 48, REF_MOST_HORIZON = 512, REF_GROUP_MOST = 71 + 10 * REF_MOST_SEASON };
 
 /* The numbers of a state, in document 01's letters. */
 struct ref_state {
@@ -20,15 +24,19 @@ struct ref_state {
     int64_t l, b, s[REF_MOST_SEASON];
     int p;
     uint64_t count;
+    uint64_t readings, high, low; /* the score (W-204): real readings, and the words of the sum of R(e)^2 over them */
 };
 
 /* Writes the group of any numbers, with season values for places 0 to m - 1; how many bytes. Nothing is checked. */
 size_t ref_group(const struct ref_state *numbers, uint8_t *bytes);
 
+/* The same in the old form, which has no score. */
+size_t ref_old_group(const struct ref_state *numbers, uint8_t *bytes);
+
 /* A reading: e into *residual. 13, 14, 15. */
 uint8_t ref_step(uint8_t *group, size_t length, int32_t reading, int64_t *residual);
 
-/* A missing reading. 14. */
+/* A missing reading. 14, 15. */
 uint8_t ref_missing(uint8_t *group, size_t length);
 
 /* Ties to even from here on (W-211): bit 6 of the model byte is set, and no value changes. */

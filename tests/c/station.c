@@ -1,5 +1,5 @@
 /* The station's calls and the benchmark's, tried from C beside reference.c: every call on every refusal that can reach it, on random groups
- * whole and damaged, and for long runs on one group. Guard bytes stand before each buffer and an unmapped page after it. */
+ * whole and damaged, new and old (W-204), and for long runs on one group. Guard bytes stand before each buffer and an unmapped page after it. */
 #define _DEFAULT_SOURCE
 #include "bench_calls.h"
 #include "forecaster.h"
@@ -14,6 +14,7 @@
 #define GUARD 64
 #define GUARD_BYTE 0xA5
 #define MOST (FORECASTER_GROUP_LENGTH(48) + 8)
+#define ROOM 25 /* of command 15, which an old group lacks */
 #define UNTOUCHED INT64_C(0x5AA5DEADBEEF1234)
 
 static unsigned long calls, failures;
@@ -32,10 +33,11 @@ static void expect(int holds, const char *text) {
 enum call { STEP, MISSING, SWITCH, FORECAST, BATCH, FORECASTS, WEIGHT, CALLS };
 static const char *const names[CALLS] = {"step", "missing", "switch", "forecast", "batch", "forecasts", "weight"};
 #define BIT(code) (1u << (code))
-#define OF_A_GROUP (BIT(11) - BIT(2) + BIT(16)) /* 2 to 10, and 16 */
+#define OF_A_GROUP (BIT(11) - BIT(2) + BIT(16) + BIT(17)) /* 2 to 10, 16 and 17 */
+#define REWRITTEN (OF_A_GROUP | BIT(12))                  /* an old group without room */
 #define OF_A_READING (BIT(13) | BIT(14) | BIT(15))
-static const unsigned refusals[CALLS] = {OF_A_GROUP | OF_A_READING, OF_A_GROUP | BIT(14) | BIT(15),       OF_A_GROUP,
-                                         OF_A_GROUP | BIT(11),      OF_A_GROUP | BIT(12) | OF_A_READING, OF_A_GROUP | BIT(11) | BIT(12),
+static const unsigned refusals[CALLS] = {REWRITTEN | OF_A_READING, REWRITTEN | BIT(14) | BIT(15),        REWRITTEN,
+                                         OF_A_GROUP | BIT(11),     OF_A_GROUP | BIT(12) | OF_A_READING, OF_A_GROUP | BIT(11) | BIT(12),
                                          OF_A_GROUP | BIT(11)};
 static unsigned long given[CALLS][256];
 
@@ -55,7 +57,7 @@ static void all_given(void) {
     what = "refusals";
     for (int call = 0; call < CALLS; call++)
         for (int code = 0; code < 256; code++) {
-            int can = code == 0 || (code < 17 && refusals[call] & BIT(code));
+            int can = code == 0 || (code < 18 && refusals[call] & BIT(code));
             if (can != (given[call][code] != 0)) {
                 failures++;
                 fprintf(stderr, "%s: %d was %s\n", names[call], code, can ? "never given" : "given");
@@ -94,7 +96,7 @@ static void expect_bytes(const void *lent, const void *bytes, size_t length) {
 }
 
 enum { MOST_CELLS = 600 };
-static struct pages groups, number_cells, reading_cells;
+static struct pages groups, reference_groups, number_cells, reading_cells;
 
 /* the number's cell between two guards */
 struct cell {
@@ -111,42 +113,54 @@ static void expect_cell(struct cell c, int64_t value) {
     expect(c.value == value, "the lent number is not the one expected");
 }
 
-/* ---- one call on a lent copy of the bytes beside the reference; what the group then holds goes back into the bytes */
+/* ---- one call on a lent copy of the bytes, and the reference on another; what the group then holds goes back into the bytes */
+static int64_t number; /* that the last step or forecast gave */
+
+static void take_back(uint8_t *bytes, const uint8_t *at, const uint8_t *theirs, size_t length, int refused) {
+    expect_bytes(at, theirs, length);
+    if (refused)
+        expect(length == 0 || memcmp(at, bytes, length) == 0, "a refused call wrote into the group");
+    if (length > 0)
+        memcpy(bytes, theirs, length);
+}
+
 static int try_step(uint8_t *bytes, size_t length, int32_t reading) {
-    uint8_t *at = lend(groups, bytes, length);
+    uint8_t *at = lend(groups, bytes, length), *theirs = lend(reference_groups, bytes, length);
     struct cell c = fresh();
     int64_t e = UNTOUCHED;
-    uint8_t code = ref_step(bytes, length, reading, &e);
+    uint8_t code = ref_step(theirs, length, reading, &e);
     int got = answered(STEP, forecaster_step(at, length, reading, &c.value), code);
-    expect_bytes(at, bytes, length);
+    take_back(bytes, at, theirs, length, got);
     expect_cell(c, e);
+    number = c.value;
     return got;
 }
 
 static int try_missing(uint8_t *bytes, size_t length) {
-    uint8_t *at = lend(groups, bytes, length);
-    uint8_t code = ref_missing(bytes, length);
+    uint8_t *at = lend(groups, bytes, length), *theirs = lend(reference_groups, bytes, length);
+    uint8_t code = ref_missing(theirs, length);
     int got = answered(MISSING, forecaster_missing(at, length), code);
-    expect_bytes(at, bytes, length);
+    take_back(bytes, at, theirs, length, got);
     return got;
 }
 
 static int try_switch(uint8_t *bytes, size_t length) {
-    uint8_t *at = lend(groups, bytes, length);
-    uint8_t code = ref_switch_to_even(bytes, length);
+    uint8_t *at = lend(groups, bytes, length), *theirs = lend(reference_groups, bytes, length);
+    uint8_t code = ref_switch_to_even(theirs, length);
     int got = answered(SWITCH, forecaster_switch_to_even(at, length), code);
-    expect_bytes(at, bytes, length);
+    take_back(bytes, at, theirs, length, got);
     return got;
 }
 
 static int try_forecast(const uint8_t *bytes, size_t length, uint32_t horizon) {
-    const uint8_t *at = lend(groups, bytes, length);
+    const uint8_t *at = lend(groups, bytes, length), *theirs = lend(reference_groups, bytes, length);
     struct cell c = fresh();
     int64_t f = UNTOUCHED;
-    uint8_t code = ref_forecast(bytes, length, horizon, &f);
+    uint8_t code = ref_forecast(theirs, length, horizon, &f);
     int got = answered(FORECAST, forecaster_forecast(at, length, horizon, &c.value), code);
     expect_bytes(at, bytes, length);
     expect_cell(c, f);
+    number = c.value;
     return got;
 }
 
@@ -159,11 +173,11 @@ static int64_t *untouched(int64_t *cells, size_t room) {
 
 static int try_batch(const uint8_t *bytes, size_t length, const int32_t *readings, size_t n, size_t room) {
     int64_t expected[MOST_CELLS];
-    const uint8_t *at = lend(groups, bytes, length);
+    const uint8_t *at = lend(groups, bytes, length), *theirs = lend(reference_groups, bytes, length);
     const int32_t *read = lend(reading_cells, readings, n * sizeof *readings);
     int64_t *cells = untouched(expected, room);
     size_t taken, got_taken[3] = {77, 77, 77};
-    uint8_t code = ref_batch(bytes, length, readings, n, expected, room, &taken);
+    uint8_t code = ref_batch(theirs, length, readings, n, expected, room, &taken);
     int got = answered(BATCH, bench_batch(at, length, read, n, cells, room, &got_taken[1]), code);
     expect_bytes(at, bytes, length);
     expect_bytes(read, readings, n * sizeof *readings);
@@ -175,9 +189,9 @@ static int try_batch(const uint8_t *bytes, size_t length, const int32_t *reading
 
 static int try_forecasts(const uint8_t *bytes, size_t length, uint32_t horizon, size_t room) {
     int64_t expected[MOST_CELLS];
-    const uint8_t *at = lend(groups, bytes, length);
+    const uint8_t *at = lend(groups, bytes, length), *theirs = lend(reference_groups, bytes, length);
     int64_t *cells = untouched(expected, room);
-    uint8_t code = ref_forecasts(bytes, length, horizon, expected, room);
+    uint8_t code = ref_forecasts(theirs, length, horizon, expected, room);
     int got = answered(FORECASTS, bench_forecasts(at, length, horizon, cells, room), code);
     expect_bytes(at, bytes, length);
     expect_bytes(cells, expected, room * sizeof *expected);
@@ -185,9 +199,9 @@ static int try_forecasts(const uint8_t *bytes, size_t length, uint32_t horizon, 
 }
 
 static int try_weight(const uint8_t *bytes, size_t length, uint32_t horizon) {
-    const uint8_t *at = lend(groups, bytes, length);
+    const uint8_t *at = lend(groups, bytes, length), *theirs = lend(reference_groups, bytes, length);
     uint64_t w = UNTOUCHED, got_w[3] = {UNTOUCHED, UNTOUCHED, UNTOUCHED};
-    uint8_t code = ref_weight(bytes, length, horizon, &w);
+    uint8_t code = ref_weight(theirs, length, horizon, &w);
     int got = answered(WEIGHT, bench_weight(at, length, horizon, &got_w[1]), code);
     expect_bytes(at, bytes, length);
     expect(got_w[0] == UNTOUCHED && got_w[2] == UNTOUCHED, "a byte beside the weight was written");
@@ -208,6 +222,20 @@ static void all_refuse(const uint8_t *bytes, size_t length, int code) {
     expect(try_batch(bytes, length, readings, 2, 2) == code, "a batch was not refused by this number");
     expect(try_forecasts(bytes, length, 2, 2) == code, "a call for all horizons was not refused by this number");
     expect(try_weight(bytes, length, 1) == code, "a weight was not refused by this number");
+}
+
+/* the calls that only read a group, on one that each must take */
+static void all_read(const uint8_t *bytes, size_t length) {
+    const int32_t readings[] = {5, INT32_MIN, 6};
+    expect(try_forecast(bytes, length, 7) == 0, "a forecast was refused");
+    expect(try_batch(bytes, length, readings, 3, 3) == 0, "a batch was refused");
+    expect(try_forecasts(bytes, length, 7, 7) == 0, "a call for all horizons was refused");
+    expect(try_weight(bytes, length, 7) == 0, "a weight was refused");
+}
+
+/* one of the calls that write the group */
+static int rewrite(enum call call, uint8_t *bytes, size_t length, int32_t reading) {
+    return call == STEP ? try_step(bytes, length, reading) : call == MISSING ? try_missing(bytes, length) : try_switch(bytes, length);
 }
 
 /* ---- groups */
@@ -242,6 +270,11 @@ static struct ref_state moved_outside(struct ref_state st) {
     return st;
 }
 
+/* the group in the new form or the old one */
+static size_t in_form(int old, const struct ref_state *st, uint8_t *bytes) {
+    return old ? ref_old_group(st, bytes) : ref_group(st, bytes);
+}
+
 static const int models[] = {0, 1, 2, 4, 5, 6, EVEN, EVEN + 1, EVEN + 2, EVEN + 4, EVEN + 5, EVEN + 6};
 enum { MODELS = sizeof models / sizeof *models };
 static const int periods[] = {2, 3, 24, 48};
@@ -256,13 +289,12 @@ static void expect_state(const uint8_t *at, struct ref_state st) {
 static void listed_cases(void) {
     uint8_t bytes[MOST];
     struct ref_state st;
-    int64_t number = 0;
     what = "T2";
     st = plain(0, 0), st.A = 32768;
     size_t n = ref_group(&st, bytes);
     uint8_t *at = lend(groups, bytes, n);
     expect(forecaster_step(at, n, 10, &number) == 0 && number == 655360, "e of the listing's step");
-    st.l = 327680, st.count = 1;
+    st.l = 327680, st.count = 1, st.readings = 1, st.low = 100;
     expect_state(at, st);
     expect(forecaster_forecast(at, n, 2, &number) == 0 && number == 327680, "the listing's forecast");
     what = "T3";
@@ -272,7 +304,7 @@ static void listed_cases(void) {
     uint64_t weight = 0;
     expect(bench_weight(at, n, 3, &weight) == 0 && weight == UINT64_C(11005853696), "T7: the weight of 3");
     expect(forecaster_step(at, n, 3, &number) == 0, "the step");
-    st.l = 131072, st.b = 98304, st.count = 1;
+    st.l = 131072, st.b = 98304, st.count = 1, st.readings = 1, st.low = 4;
     expect_state(at, st);
     expect(forecaster_forecast(at, n, 3, &number) == 0 && number == 425984, "forecast 3");
     what = "T4";
@@ -280,7 +312,7 @@ static void listed_cases(void) {
     n = ref_group(&st, bytes);
     at = lend(groups, bytes, n);
     expect(forecaster_step(at, n, 0, &number) == 0, "the step");
-    st.l = 2, st.b = 2, st.count = 1;
+    st.l = 2, st.b = 2, st.count = 1, st.readings = 1;
     expect_state(at, st);
     expect(forecaster_forecast(at, n, 2, &number) == 0 && number == 4, "forecast 2");
     what = "T5 and T6";
@@ -289,7 +321,7 @@ static void listed_cases(void) {
     at = lend(groups, bytes, n);
     expect(bench_weight(at, n, 3, &weight) == 0 && weight == UINT64_C(6979321856), "T8: the weight of 3");
     expect(forecaster_step(at, n, 5, &number) == 0, "the step");
-    st.l = 65536, st.s[0] = 196608, st.p = 1, st.count = 1;
+    st.l = 65536, st.s[0] = 196608, st.p = 1, st.count = 1, st.readings = 1, st.low = 16;
     expect_state(at, st);
     const int64_t forecasts[] = {0, 262144, 0};
     for (uint32_t h = 1; h <= 3; h++)
@@ -328,44 +360,76 @@ static void listed_cases(void) {
                 expect_state(at, st);
             }
             expect(forecaster_step(at, n, 0, &number) == 0 && number == numbers[i], "e");
-            st.l += rule ? even[i] : up[i], st.count = 1;
+            int64_t rounded = rule ? even[i] : up[i];
+            st.l += rounded, st.count = 1, st.readings = 1, st.low = (uint64_t)(rounded * rounded);
             expect_state(at, st);
         }
-    calls += 16 + 24;
+    what = "W-204: the listing's step on an old group, a missing reading and a switch after it";
+    st = plain(0, 0), st.A = 32768;
+    memset(bytes, 0x77, sizeof bytes);
+    n = ref_old_group(&st, bytes);
+    expect(n == 46 && n == FORECASTER_OLD_GROUP_LENGTH(0), "the old group's length");
+    at = lend(groups, bytes, n);
+    expect(forecaster_step(at, n, 10, &number) == FORECASTER_SHORT_SLICE, "a step without room");
+    expect_bytes(at, bytes, n);
+    expect(forecaster_forecast(at, n, 1, &number) == 0 && number == 0, "a forecast without room");
+    n = 71;
+    at = lend(groups, bytes, n);
+    expect(forecaster_step(at, n, 10, &number) == 0 && number == 655360, "a step with room");
+    st.l = 327680, st.count = 1, st.readings = 1, st.low = 100;
+    expect_state(at, st);
+    expect(forecaster_missing(at, n) == 0 && forecaster_switch_to_even(at, n) == 0, "a missing reading and a switch");
+    st.model = EVEN, st.count = 2;
+    expect_state(at, st);
+    expect(forecaster_step(at, n, 2, &number) == 0 && number == -196608, "another step");
+    st.l = 229376, st.count = 3, st.readings = 2, st.low = 109;
+    expect_state(at, st);
+    calls += 16 + 24 + 6;
 }
 
 /* ---- refusals 2, 3 and 4 at every place of every kind of group */
-static void cuts_and_commands(int outside) {
+static void cuts_and_commands(int outside, int old) {
     for (int i = 0; i < MODELS; i++)
         for (size_t j = 0; j < sizeof periods / sizeof *periods; j++) {
             if ((!seasonal(models[i]) && j > 0) || (outside && models[i] % EVEN == 0))
                 continue;
+            if (models[i] & EVEN && j > 1)
+                continue; /* the rounding rule moves nothing here */
             struct ref_state st = plain(models[i], seasonal(models[i]) ? periods[j] : 0);
             if (outside)
                 st = moved_outside(st);
             uint8_t bytes[MOST];
-            size_t n = ref_group(&st, bytes);
+            size_t n = in_form(old, &st, bytes), more = old ? ROOM + 1 : 1;
             what = "a cut group";
             for (size_t cut = 0; cut < n; cut++)
                 all_refuse(bytes, cut, FORECASTER_TRUNCATED);
-            what = "a byte after the group";
+            what = "bytes after the group";
             for (int after = 0; after < 256; after++) {
-                bytes[n] = (uint8_t)after;
-                all_refuse(bytes, n + 1, FORECASTER_OUT_OF_PLACE);
+                memset(bytes + n, after, more);
+                all_refuse(bytes, n + more, FORECASTER_OUT_OF_PLACE);
             }
             what = "a first byte";
-            for (size_t at = 0; at < n; at = at == 0 ? 19 : at == 19 ? 36 : at + 10)
+            for (size_t at = 0; at < n; at = at == 0 ? 19 : at == 19 ? 36 : at == 36 && !old ? 61 : at + 10)
                 for (int first = 0; first < 256; first++) {
                     uint8_t due = bytes[at];
+                    if (first == due)
+                        continue;
                     bytes[at] = (uint8_t)first;
                     int low = first & 15, high = first >> 4;
-                    int known = (high == 1 && (low < 5 || low == 8)) || (high == 2 && low < 2) || (high == 3 && low < 2) || first == 0x40;
-                    int other = at == 0 && first == (st.outside ? 0x10 : 0x18); /* the other command that opens a group */
-                    int code = !known ? FORECASTER_UNKNOWN_COMMAND : !other ? FORECASTER_OUT_OF_PLACE : st.outside ? FORECASTER_UNUSUAL_GAINS : FORECASTER_BAD_PARAMETER;
-                    if (first != due)
+                    int known = (high == 1 && (low < 6 || low == 8)) || (high == 2 && low < 2) || (high == 3 && low < 2) || first == 0x40;
+                    int code = known ? FORECASTER_OUT_OF_PLACE : FORECASTER_UNKNOWN_COMMAND;
+                    int other = 0; /* the other command that is due there as well */
+                    if (at == 0 && first == (st.outside ? 0x10 : 0x18))
+                        other = 1, code = st.outside ? FORECASTER_UNUSUAL_GAINS : FORECASTER_BAD_PARAMETER;
+                    /* after 11 the other form's: with a season, the byte where its next command would be is none */
+                    if (at == 36 && first == (old ? 0x15 : st.m ? 0x12 : 0x13))
+                        other = 1, code = st.m ? FORECASTER_UNKNOWN_COMMAND : old ? FORECASTER_TRUNCATED : 0;
+                    if (code)
                         all_refuse(bytes, n, code);
+                    else
+                        all_read(bytes, n); /* 13 in place of 15 makes an old group, with 25 bytes after it */
                     /* out of place is told before cut */
-                    if (first != due && known)
+                    if (known)
                         all_refuse(bytes, at + 1, other ? FORECASTER_TRUNCATED : FORECASTER_OUT_OF_PLACE);
                     bytes[at] = due;
                 }
@@ -406,6 +470,165 @@ static void region(void) {
                 }
 }
 
+/* ---- random numbers */
+static uint64_t seed = 0x9E3779B97F4A7C15;
+
+static uint64_t random64(void) {
+    seed ^= seed << 13;
+    seed ^= seed >> 7;
+    seed ^= seed << 17;
+    return seed;
+}
+
+static int64_t pick(int64_t low, int64_t high) {
+    return low + (int64_t)(random64() % (uint64_t)(high - low + 1));
+}
+
+/* ---- old groups of every season length, with up to 27 bytes of any kind after them */
+static void old_group(struct ref_state st) {
+    uint8_t bytes[MOST], copy[MOST], other[MOST]; /* the old form, and the new one of the same state */
+    size_t n = ref_old_group(&st, bytes), full = ref_group(&st, other);
+    expect(n == FORECASTER_OLD_GROUP_LENGTH(st.m) && full == FORECASTER_GROUP_LENGTH(st.m), "the lengths of the two forms");
+    try_forecast(other, full, 7);
+    int64_t forecast = number;
+    for (size_t after = 0; after <= ROOM + 2; after++) {
+        int commands = (int)pick(0, 1); /* or bytes of any kind */
+        for (size_t k = 0; k < after; k++)
+            bytes[n + k] = (uint8_t)(commands ? 0x15 - k % 6 : random64());
+        if (after > ROOM) {
+            all_refuse(bytes, n + after, FORECASTER_OUT_OF_PLACE);
+            continue;
+        }
+        all_read(bytes, n + after);
+        expect(try_forecast(bytes, n + after, 7) == 0 && number == forecast, "the forecast is not that of the new form");
+        expect(try_forecast(bytes, n + after, 513) == FORECASTER_BAD_HORIZON, "11 of an old group");
+        for (int call = STEP; call <= SWITCH; call++) {
+            memcpy(copy, bytes, n + after);
+            int code = rewrite(call, copy, n + after, -3);
+            expect(code == (after < ROOM ? FORECASTER_SHORT_SLICE : 0), "an old group was not rewritten where it has room");
+            if (code)
+                continue;
+            ref_group(&st, other);
+            expect(rewrite(call, other, full, -3) == 0 && memcmp(copy, other, full) == 0, "the new form goes another way");
+            all_read(copy, full);
+        }
+    }
+    memset(bytes + n, 0, MOST - n);
+    all_refuse(bytes, MOST, FORECASTER_OUT_OF_PLACE);
+}
+
+static void old_groups(void) {
+    what = "an old group";
+    for (int i = 0; i < MODELS; i++)
+        for (int m = seasonal(models[i]) ? 2 : 0; m == 0 || m <= 48; m++) {
+            struct ref_state st = plain(models[i], m);
+            st.l = (int64_t)(random64() % 4000000) - 2000000, st.b = trend_of(models[i]) ? st.l / 7 : 0;
+            st.p = m ? (int)(random64() % (unsigned)m) : 0, st.count = random64() >> 20;
+            old_group(st);
+            if (models[i] % EVEN != 0 && m % 5 == 0)
+                old_group(moved_outside(st));
+            if (m == 0)
+                break;
+        }
+    what = "12 among the other refusals";
+    const int64_t range = INT64_C(1) << 40;
+    const uint64_t full = UINT64_C(1) << 48;
+    uint8_t bytes[MOST] = {0};
+    for (size_t after = 0; after <= ROOM + 1; after++) {
+        int room = after == ROOM, none = after > ROOM ? FORECASTER_OUT_OF_PLACE : FORECASTER_SHORT_SLICE;
+        struct ref_state st = plain(5, 3);
+        size_t n = ref_old_group(&st, bytes) + after;
+        expect(try_step(bytes, n, 1000001) == (room ? FORECASTER_BAD_READING : none), "12 comes before 13");
+        st.count = full;
+        ref_old_group(&st, bytes);
+        expect(try_step(bytes, n, 0) == (room ? FORECASTER_COUNT_FULL : none), "12 comes before 14");
+        expect(try_missing(bytes, n) == (room ? FORECASTER_COUNT_FULL : none), "12 comes before 14");
+        st.count = 0, st.l = st.b = range;
+        ref_old_group(&st, bytes);
+        expect(try_step(bytes, n, 0) == (room ? FORECASTER_LEAVES_RANGE : none), "12 comes before 15");
+        expect(try_missing(bytes, n) == (room ? FORECASTER_LEAVES_RANGE : none), "12 comes before 15");
+        expect(try_switch(bytes, n) == (room ? 0 : none), "a switch of an old group");
+        st.count = full + 1;
+        ref_old_group(&st, bytes);
+        all_refuse(bytes, n, FORECASTER_BAD_POSITION); /* the group's own come before 3 and 12 */
+    }
+}
+
+/* ---- the score: 17 at its edges and among the other refusals, and the sum carried into its high word */
+static void scores(void) {
+    const uint64_t full = UINT64_C(1) << 48, top = UINT64_MAX, unit = UINT64_C(1) << 52;
+    const struct {
+        uint64_t readings, count, high, low;
+        int code;
+    } edges[] = {
+        {0, 0, 0, 0, 0}, {1, 0, 0, 0, 17}, {0, 0, 0, 1, 17}, {0, 9, 0, 1, 17}, {0, 9, 1, 0, 17}, {1, 1, 0, unit, 0},
+        {1, 1, 0, unit + 1, 17}, {1, 1, 1, 0, 17}, {9, 9, 0, 9 * unit, 0}, {9, 9, 0, 9 * unit + 1, 17}, {10, 9, 0, 0, 17},
+        {4095, 4095, 0, 4095 * unit, 0}, {4095, 4095, 0, 4095 * unit + 1, 17}, {4095, 5000, 0, top, 17}, {4095, 5000, 1, 0, 17},
+        {4096, 4096, 0, top, 0}, {4096, 4096, 1, 0, 0}, {4096, 4096, 1, 1, 17}, {4096, 5000, 2, 0, 17}, {4097, 5000, 1, unit, 0},
+        {4097, 5000, 1, unit + 1, 17}, {4097, 5000, 2, 0, 17}, {8192, 8192, 1, top, 0}, {8192, 8192, 2, 0, 0}, {8192, 8192, 2, 1, 17},
+        {full - 1, full, full >> 12, 0, 17}, {full - 1, full, (full >> 12) - 1, 4095 * unit, 0},
+        {full - 1, full, (full >> 12) - 1, 4095 * unit + 1, 17}, {full, full, full >> 12, 0, 0}, {full, full, full >> 12, 1, 17},
+        {full, full, (full >> 12) + 1, 0, 17}, {full, full, (full >> 12) - 1, top, 0}, {full, full - 1, 0, 0, 17},
+        {full + 1, full, 0, 0, 17}, {top, full, 0, 0, 17}, {0, full, top, top, 17}, {full, full, top, 0, 17}, {UINT64_C(1) << 63, full, 0, 0, 17},
+        {full + 1, full + 1, 0, 0, 10}, {top, top, top, top, 10},
+    };
+    uint8_t bytes[MOST];
+    what = "a score at the edge";
+    for (size_t k = 0; k < sizeof edges / sizeof *edges; k++)
+        for (int i = 0; i < MODELS; i++) {
+            struct ref_state st = plain(models[i], seasonal(models[i]) ? 3 : 0);
+            st.readings = edges[k].readings, st.count = edges[k].count, st.high = edges[k].high, st.low = edges[k].low;
+            size_t n = ref_group(&st, bytes);
+            if (edges[k].code == 0) {
+                const int32_t none[1] = {0};
+                expect(try_forecast(bytes, n, 1) == 0 && try_weight(bytes, n, 1) == 0, "a valid score was refused");
+                expect(try_batch(bytes, n, none, 0, 0) == 0 && try_forecasts(bytes, n, 1, 1) == 0, "a valid score was refused");
+                expect(try_switch(bytes, n) == 0, "a valid score was refused");
+                expect(try_missing(bytes, n) == (st.count < full ? 0 : FORECASTER_COUNT_FULL), "a missing reading beside this score");
+                expect(try_step(bytes, n, 1000000) == (st.count + 1 < full ? 0 : FORECASTER_COUNT_FULL), "a step beside this score");
+                continue;
+            }
+            all_refuse(bytes, n, edges[k].code);
+            bytes[n] = 0x40;
+            all_refuse(bytes, n + 1, edges[k].code); /* 17 comes before 3 */
+            expect(try_step(bytes, n, 1000001) == edges[k].code, "17 comes before 13");
+            expect(try_forecast(bytes, n, 0) == edges[k].code, "17 comes before 11");
+            expect(try_forecasts(bytes, n, 1, 0) == edges[k].code, "17 comes before a short slice");
+            all_refuse(bytes, n - 1, FORECASTER_TRUNCATED); /* it is told of command 13 alone, so all of these come before it */
+            bytes[n - 10] = 0x15;
+            all_refuse(bytes, n, FORECASTER_OUT_OF_PLACE);
+            bytes[n - 10] = 0x13, bytes[n - 9] = 48;
+            all_refuse(bytes, n, FORECASTER_BAD_POSITION);
+            if (st.m) {
+                bytes[n - 11] = 0x55;
+                all_refuse(bytes, n, FORECASTER_BAD_VALUE);
+            }
+        }
+    what = "a sum that is carried";
+    const int32_t readings[] = {0, 1, -1, 2, 1000000, -1000000};
+    for (int i = 0; i < 6; i++)
+        for (uint64_t less = 0; less <= 4; less++)
+            for (uint64_t high = 0; high < 3; high++) {
+                struct ref_state st = {.readings = 12288, .count = 12290, .high = high, .low = top - less}; /* A is 0: e is the reading */
+                size_t n = ref_group(&st, bytes);
+                expect(try_step(bytes, n, readings[i]) == 0, "the step");
+                uint64_t square = (uint64_t)((int64_t)readings[i] * readings[i]);
+                st.high += square > less, st.low += square, st.readings++, st.count++;
+                expect_state(lend(groups, bytes, n), st);
+            }
+    what = "the greatest residual";
+    for (int sign = -1; sign <= 1; sign += 2)
+        for (uint64_t many = 4090; many <= 4100; many++) {
+            int64_t far = sign * (INT64_C(1) << 40);
+            struct ref_state st = {.model = 5, .m = 2, .A = 32768, .B = 16384, .G = 16384, .F = 65536, .l = far, .b = far, .s = {far, far}};
+            st.readings = st.count = many, st.high = many >> 12, st.low = many << 52;
+            size_t n = ref_group(&st, bytes);
+            expect(try_step(bytes, n, -sign * 1000000) == 0, "the step");
+            expect(number == -sign * (INT64_C(65536000000) + 3 * (INT64_C(1) << 40)), "e");
+            all_read(bytes, n); /* the sum is at its limit before the step, and still passes after it */
+        }
+}
+
 /* ---- refusals 5 to 11 and 13 to 15, at the edges of each range */
 static void operands(void) {
     const int64_t range = INT64_C(1) << 40;
@@ -413,15 +636,19 @@ static void operands(void) {
     uint8_t bytes[MOST];
     struct ref_state st;
     size_t n;
-#define REFUSED(code)               \
-    do {                            \
-        n = ref_group(&st, bytes);  \
-        all_refuse(bytes, n, code); \
+#define REFUSED(code)                         \
+    do {                                      \
+        for (int old = 0; old < 2; old++) {   \
+            n = in_form(old, &st, bytes);     \
+            all_refuse(bytes, n, code);       \
+        }                                     \
     } while (0)
-#define TAKEN()                                                             \
-    do {                                                                    \
-        n = ref_group(&st, bytes);                                          \
-        expect(try_forecast(bytes, n, 1) == 0, "a valid group was refused"); \
+#define TAKEN()                                                                  \
+    do {                                                                         \
+        for (int old = 0; old < 2; old++) {                                      \
+            n = in_form(old, &st, bytes);                                        \
+            expect(try_forecast(bytes, n, 1) == 0, "a valid group was refused"); \
+        }                                                                        \
     } while (0)
     what = "model byte";
     for (int model = 0; model < 256; model++) {
@@ -490,10 +717,10 @@ static void operands(void) {
     what = "season's place";
     for (int k = 0; k < 3; k++)
         for (int place = 0; place < 256; place++)
-            if (place != k) {
+            for (int old = 0; old < 2 && place != k; old++) {
                 st = plain(4, 3);
-                n = ref_group(&st, bytes);
-                bytes[37 + 10 * k] = (uint8_t)place;
+                n = in_form(old, &st, bytes);
+                bytes[(old ? 37 : 62) + 10 * k] = (uint8_t)place;
                 all_refuse(bytes, n, FORECASTER_WRONG_INDEX);
             }
     what = "place and count";
@@ -599,20 +826,7 @@ static void operands(void) {
 #undef TAKEN
 }
 
-/* ---- random numbers */
-static uint64_t seed = 0x9E3779B97F4A7C15;
-
-static uint64_t random64(void) {
-    seed ^= seed << 13;
-    seed ^= seed >> 7;
-    seed ^= seed << 17;
-    return seed;
-}
-
-static int64_t pick(int64_t low, int64_t high) {
-    return low + (int64_t)(random64() % (uint64_t)(high - low + 1));
-}
-
+/* ---- random groups, whole and damaged */
 static struct ref_state random_state(void) {
     int model = models[random64() % MODELS];
     struct ref_state st = plain(model, seasonal(model) ? (int)pick(2, 48) : 0);
@@ -629,16 +843,33 @@ static struct ref_state random_state(void) {
         st.s[k] = pick(-range, range);
     st.outside = (st.B > st.A || st.A + st.G > 65536) != (pick(0, 19) == 0);
     st.count = pick(0, 9) == 0 ? (UINT64_C(1) << 48) - (uint64_t)pick(0, 2) : (uint64_t)pick(0, 1000000);
+    st.readings = pick(0, 3) == 0 ? st.count + (pick(0, 9) == 0) : random64() % (st.count + 1);
+    st.high = st.readings >> 12, st.low = st.readings << 52; /* the greatest sum, or beside it, or any below it */
+    switch (pick(0, 9)) {
+    case 0:
+        st.low++;
+        break;
+    case 1:
+        st.high -= st.high > 0, st.low--;
+        break;
+    case 2:
+        break;
+    default:
+        st.low = st.high ? pick(0, 1) ? random64() : UINT64_MAX - (uint64_t)pick(0, 1000) : st.low ? random64() % st.low : 0;
+        st.high = st.high ? random64() % st.high : 0;
+    }
     return st;
 }
 
-/* ---- random groups, whole and damaged */
 static void damaged_groups(int rounds) {
     what = "a random group";
     for (int i = 0; i < rounds; i++) {
         struct ref_state st = random_state();
         uint8_t bytes[MOST];
-        size_t n = ref_group(&st, bytes);
+        int old = pick(0, 2) == 0;
+        size_t n = in_form(old, &st, bytes);
+        for (int after = !old ? 0 : pick(0, 3) ? ROOM : (int)pick(0, ROOM + 2); after > 0; after--)
+            bytes[n++] = (uint8_t)random64();
         for (int damage = (int)pick(0, 3); damage > 0; damage--)
             switch (pick(0, 3)) {
             case 0:
@@ -680,14 +911,25 @@ static void damaged_groups(int rounds) {
     }
 }
 
-/* ---- one group for a long time: readings, missing ones, refused ones and forecasts */
-static void long_run(int model, int m, int steps) {
+/* v / 65536 to the nearest whole number, a tie up or to the even one, in the plainest way */
+static int64_t nearest(int64_t v, int even) {
+    int64_t whole = v >= 0 ? v / 65536 : -((-v + 65535) / 65536), left = v - 65536 * whole;
+    return whole + (left > 32768 || (left == 32768 && !(even && whole % 2 == 0)));
+}
+
+/* ---- one group for a long time: readings, missing ones, refused ones and forecasts. An old one ends as a new one; a new one
+ * has a score already, whose sum is soon carried into the high word */
+static void long_run(int model, int m, int old, int steps) {
     uint8_t bytes[MOST];
     struct ref_state st = plain(model, m);
     if (trend_of(model))
         st.B = 256; /* with a long season a larger one is unstable, and most steps end in refusal 15 */
+    if (!old)
+        st.readings = st.count = 1 << 20, st.high = 5, st.low = UINT64_MAX - 5000;
     size_t n = ref_group(&st, bytes);
-    uint64_t accepted = 0;
+    if (old)
+        ref_old_group(&st, bytes); /* what is left of the new form stands after it */
+    uint64_t accepted = st.count, readings = st.readings, high = st.high, low = st.low;
     for (int i = 0; i < steps; i++) {
         int32_t reading = (int32_t)pick(-40, 40) + 300 * (m ? i % m : 0) - i % 5000;
         switch (pick(0, 19)) {
@@ -705,32 +947,44 @@ static void long_run(int model, int m, int steps) {
                 expect(try_switch(bytes, n) == 0 && bytes[1] == (model | EVEN), "a switch was refused, or left another model");
             break;
         default:
-            accepted += try_step(bytes, n, reading) == 0;
+            if (try_step(bytes, n, reading) == 0) {
+                int64_t r = nearest(number, bytes[1] & EVEN);
+                uint64_t square = (uint64_t)(r * r);
+                accepted++, readings++, high += low > UINT64_MAX - square, low += square;
+            }
         }
     }
-    uint64_t count;
+    uint64_t count, score[3];
     memcpy(&count, bytes + n - 8, sizeof count);
+    memcpy(score, bytes + 37, sizeof score);
     expect(count == accepted, "the count is not that of the calls accepted");
-    expect(accepted > (uint64_t)steps / 2, "most calls were refused");
+    expect(bytes[36] == 0x15 && score[0] == readings, "the readings are not those accepted");
+    expect(score[1] == high && score[2] == low && (old || high > 5), "the sum is not that of the squares");
+    expect(readings - st.readings > (uint64_t)steps / 2, "most calls were refused");
 }
 
 int main(void) {
     groups = map_pages(MOST);
+    reference_groups = map_pages(MOST);
     number_cells = map_pages(MOST_CELLS * sizeof(int64_t));
     reading_cells = map_pages(MOST_CELLS * sizeof(int32_t));
     listed_cases();
-    cuts_and_commands(0);
-    cuts_and_commands(1);
+    for (int old = 0; old < 2; old++) {
+        cuts_and_commands(0, old);
+        cuts_and_commands(1, old);
+    }
     region();
+    old_groups();
+    scores();
     operands();
     damaged_groups(200000);
     what = "a long run";
     for (int i = 0; i < MODELS; i++)
         if (!seasonal(models[i]))
-            long_run(models[i], 0, 200000);
+            long_run(models[i], 0, i % 2, 200000);
         else
             for (size_t j = 0; j < sizeof periods / sizeof *periods; j++)
-                long_run(models[i], periods[j], 100000);
+                long_run(models[i], periods[j], (i + (int)j) % 2, 100000);
     all_given();
     printf("station: %lu calls, %lu failures\n", calls, failures);
     return failures != 0;

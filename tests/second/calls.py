@@ -16,13 +16,13 @@ The program reads records and writes a line for each. A record is an operation's
     10 save        the length of the byte cells lent
     11, 12         6 and 7 on the bedside display (W-206)
     13 switch      to ties to even (W-211)
-    14 in place    the same on a lent slice: a length and as many bytes
+    14 in place    the same on a lent slice: a length and as many bytes; an old group becomes a new one there (W-204)
 
 A state is a length and as many season cells of 64 bits, the others being 0; 1 where command 18 opened it, or 0, model and m, a byte each; A, B, G, F of 32 bits;
-l and b of 64 bits; p, a byte; count, of 64 bits.
+l and b of 64 bits; p, a byte; count, the score's readings, high and low word (W-204), of 64 bits each.
 
 A line is the operation, the refusal or 0, and what the call gives, each number before a blank; a byte is a number. A step, a
-missing reading, a batch, a switch and a read give a state, with all its season cells after the count; a save gives the bytes that the
+missing reading, a batch, a switch and a read give a state, with all its season cells after the score; a save gives the bytes that the
 state needs or its refusal; a read gives, after the state, the refusal once more and the rest of the bytes, which after a
 refusal begins with the refused command. The cells lent stand last. They start as 77, so that what a call leaves untouched is
 seen.
@@ -32,7 +32,7 @@ from dataclasses import replace
 
 import forecaster as f
 from forecaster import State
-from streams import C, COUNTS, MODELS, PARAMETERS, V, VALUES, WORD32, cells, edge_gains, nominal, opened
+from streams import C, COUNTS, MODELS, PARAMETERS, TO_EVEN, V, VALUES, WORD32, WORD64, cells, edge_gains, edge_scores, nominal, old, opened, scored
 
 READ, CHECK, STEP, MISSING, BATCH, FORECAST, FORECASTS, WEIGHT, VARIANCE, SAVE, DISPLAY_FORECAST, DISPLAY_FORECASTS, SWITCH, SWITCH_IN_PLACE = range(1, 15)
 UNTOUCHED = 77
@@ -50,11 +50,11 @@ def outside(x):
 def state_bytes(x):
     used = max((k + 1 for k, value in enumerate(x.s) if value), default=0)
     season = numbers(4, used) + numbers(8, *x.s[:used])
-    return season + numbers(1, outside(x), x.model, x.m) + numbers(4, x.A, x.B, x.G, x.F) + numbers(8, x.l, x.b) + numbers(1, x.p) + numbers(8, x.count)
+    return season + numbers(1, outside(x), x.model, x.m) + numbers(4, x.A, x.B, x.G, x.F) + numbers(8, x.l, x.b) + numbers(1, x.p) + numbers(8, x.count, x.readings, x.high, x.low)
 
 
 def state_numbers(x):
-    return [outside(x), x.model, x.m, x.A, x.B, x.G, x.F, x.l, x.b, x.p, x.count, *x.s]
+    return [outside(x), x.model, x.m, x.A, x.B, x.G, x.F, x.l, x.b, x.p, x.count, x.readings, x.high, x.low, *x.s]
 
 
 def attempted(call):
@@ -128,10 +128,7 @@ class Script:
         """On a slice that is to hold one group: what it then holds."""
         code, held = 0, data
         try:
-            x, used = f.read_group(data)
-            if used < len(data):
-                raise f.Rejected(3)
-            held = f.group_bytes(f.switch_to_even(x))
+            held = f.rewrite_slice(data, f.switch_to_even)
         except f.Rejected as r:
             code = r.code
         self.record(SWITCH_IN_PLACE, numbers(4, len(data)) + data, [code, *held])
@@ -190,7 +187,7 @@ class Script:
 
 
 def refused_states(t):
-    """Checks 5, 6, 7, 16, 9, 10 of a state handed in directly, one fault at a time."""
+    """Checks 5, 6, 7, 16, 9, 10, 17 of a state handed in directly, one fault at a time."""
     for model in (3, 7, 8, 255):
         t.use(replace(nominal(0), model=model))
         t.check()
@@ -222,11 +219,16 @@ def refused_states(t):
             t.use(replace(x, p=p))
             t.check()
         for count in COUNTS:
-            t.use(replace(x, count=count))
+            for y in (x, scored(x, 0, 0)):
+                t.use(replace(y, count=count))
+                t.check()
+    for count in (0, 5000, 2**47, C):
+        for n, total in edge_scores(count):
+            t.use(scored(State(count=count), n, total))
             t.check()
 
 
-FAULTS = [dict(model=3), dict(m=49), dict(F=0), dict(B=20001), dict(l=V + 1), dict(p=48)]
+FAULTS = [dict(model=3), dict(m=49), dict(F=0), dict(B=20001), dict(l=V + 1), dict(p=48), dict(readings=WORD64)]
 
 
 def first_fault(t):
@@ -365,9 +367,9 @@ def groups(t):
             for after in (b"", b"\x10", b"\x20\x01", b"\xff", saved[:5]):
                 t.read(saved + after)
             t.keep()
-            t.save(526)
+            t.save(551)
     t.read(b"")
-    for byte in (0x00, 0x10, 0x11, 0x12, 0x13, 0x18, 0x20, 0x21, 0x30, 0x31, 0x40, 0x41, 0xFF):
+    for byte in (0x00, 0x10, 0x11, 0x12, 0x13, 0x15, 0x16, 0x18, 0x20, 0x21, 0x30, 0x31, 0x40, 0x41, 0xFF):
         t.read(bytes([byte]))
     saved = f.group_bytes(nominal(5))
     for end in range(len(saved)):
@@ -391,7 +393,7 @@ def outside_region(t):
             t.keep()
             t.missing()
             t.keep()
-        t.save(526)
+        t.save(551)
         saved = f.group_bytes(t.state)
         t.read(saved + b"\x18")
         t.read(b"\x10" + saved[1:])
@@ -435,9 +437,74 @@ def rules(t):
             t.switch_in_place(f.group_bytes(replace(nominal(5), **fault)))
 
 
+def scores(t):
+    """W-204: the score after steps and batches, halted ones among them, by both rules; squares that carry into the high word,
+    and just not; the largest; groups with a score that 17 refuses; old groups read, and saved in the new form."""
+    mark = f.SENTINEL
+    for model in MODELS + TO_EVEN:
+        # The level stays, so that e of reading 0 is a tie.
+        x = State(model=model, m=3 if model & 4 else 0, F=[0, 65536, 1][model & 3], l=-98304, count=9)
+        for y in (x, scored(x, 9, 9 * f.SQUARE_LIMIT)):
+            t.use(y)
+            t.step(0)
+            t.missing()
+            t.batch([0, mark, 1, mark, mark, 2, -3], 7)
+            t.batch([0, mark, 1, 1_000_001, 2], 5)
+            t.batch([mark, mark], 2)
+            t.batch([0, 1, 2], 2)
+    for sign in (1, -1):
+        for k in range(4):
+            # The trend carries the level out after k readings.
+            t.use(scored(State(model=1, F=65536, l=sign * (V - k * 1000), b=sign * 1000, count=8), 7, 6))
+            t.step(1_000_000)
+            t.batch([sign * 1_000_000, mark, 0, -sign * 1_000_000, 0], 5)
+        t.use(State(model=5, m=2, A=36000, F=65536, l=sign * V, b=sign * V, s=cells(sign * V, sign * V)))
+        t.step(-sign * 1_000_000)
+        t.keep()
+        t.save(551)
+    for high in (0, 2**36 - 2):
+        for y in (3, -1_000_000):
+            for beyond in (-1, 0, 1):
+                # The level stays 0, so that R(e) is y; the count is full after three more.
+                t.use(scored(State(count=C - 3), C - 3, ((high + 1) << 64) + beyond - y * y))
+                t.step(y)
+                t.batch([y, mark, y, y], 4)
+                t.batch([mark, -y, y, y], 4)
+    for model in MODELS:
+        x = nominal(model)
+        for n, high, low in (5001, 1, 5), (4900, 1, WORD64), (4096, 1, 1), (4096, 1, 0):
+            for after in (b"", b"\x15"):
+                t.read(f.group_bytes(replace(x, readings=n, high=high, low=low)) + after)
+        for y in (x, nominal(model | f.EVEN, 48)):
+            for after in (b"", b"\x10", b"\xff", f.encode(0x15, 1, 0, 0)):
+                t.read(old(y) + after)
+            t.keep()
+            t.save(551)
+    group = old(nominal(5))
+    for end in range(36, len(group)):
+        t.read(group[:end])
+
+
+def lent(t):
+    """W-204: the switch in place on old groups with too few bytes after them for the new form, just enough, and more, whatever
+    they hold; on new groups with bytes after them; and on groups with a refusal of their own, which is told first."""
+    longest = old(nominal(6, 48))
+    for group in [longest] + [old(nominal(model)) for model in MODELS + TO_EVEN]:
+        for after in (0, 1, 24, 25, 26):
+            t.switch_in_place(group + b"\xff" * after)
+        t.switch_in_place(group + f.encode(0x15, 1, 2, 3))
+    for x in (nominal(0), nominal(5)):
+        for after in (0, 1, 25, 26):
+            t.switch_in_place(f.group_bytes(x) + bytes(after))
+            t.switch_in_place(f.group_bytes(replace(x, readings=5001)) + bytes(after))
+            for group in (f.group_bytes(x), old(x)):
+                for bad in (b"\x11" + group[1:], group[:36], group[:37], group[:-1], group[:-1] + b"\xff"):
+                    t.switch_in_place(bad + bytes(after))
+
+
 def script():
     t = Script()
-    for part in (refused_states, first_fault, steps, batches, horizons, groups, outside_region, rules):
+    for part in (refused_states, first_fault, steps, batches, horizons, groups, outside_region, rules, scores, lent):
         part(t)
     return t
 

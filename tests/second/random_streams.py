@@ -4,7 +4,7 @@ from dataclasses import replace
 
 import forecaster as f
 from forecaster import State
-from streams import C, COUNTS, MODELS, UNKNOWN, V, edge_gains, opened
+from streams import C, COUNTS, MODELS, UNKNOWN, V, WORD64, edge_gains, opened, scored
 
 EDGES = {
     0x10: [
@@ -19,6 +19,7 @@ EDGES = {
     0x30: [[0, 1, 2, 47, 48, 49, 511, 512, 513, 65535]],
     0x31: [[0, 1, 2, 48, 511, 512, 513, 65535], [0, 1, 65536, 2**32 - 1]],
     0x14: [],
+    0x15: [[0, 1, 2, 4096, C, C + 1, WORD64], [0, 1, 2**36, WORD64], [0, 1, f.SQUARE_LIMIT, f.SQUARE_LIMIT + 1, WORD64]],
     0x21: [],
     0x40: [],
 }
@@ -39,6 +40,15 @@ def signed(rng, limit):
 
 def parameter(rng):
     return rng.choice([0, 1, 32768, 65535, 65536, rng.randint(0, 65536), rng.randint(0, 65536) >> rng.randint(0, 15)])
+
+
+def score(rng, x):
+    """The state with a score that passes, often near the edges of 17 or where the next square carries into the high word."""
+    n = rng.choice([0, x.count, max(x.count - 1, 0), rng.randint(0, x.count)])
+    most = n * f.SQUARE_LIMIT
+    carry = rng.randint(1, max(most >> 64, 1)) << 64
+    total = rng.choice([0, most, rng.randint(0, most), most - magnitude(rng, f.SQUARE_LIMIT), carry - magnitude(rng, 2**40)])
+    return scored(x, n, min(max(total, 0), most))
 
 
 def state(rng):
@@ -63,7 +73,12 @@ def state(rng):
         p=rng.choice([0, m - 1, rng.randint(0, m - 1)]) if m else 0,
         count=rng.choice([0, 1, 2, C - rng.randint(0, 20), rng.randint(0, C), *[rng.randint(0, 1000)] * 7]),
     )
-    return opened(found)
+    return score(rng, opened(found))
+
+
+def group(rng, x):
+    """The commands of the state's group; one in four has the old form, without the score (W-204)."""
+    return [c for c in f.group(x) if c[0] != 0x15 or rng.random() < 0.75]
 
 
 def command(rng, reading_limit):
@@ -86,21 +101,31 @@ def commands(rng):
         x = None
         if turn > 0 and rng.random() < 0.5:
             x = f.play(b"".join(f.encode(*c) for c in found))[1]
-        found += list(f.group(x or state(rng)))
+        found += group(rng, x or state(rng))
         limit = rng.choice([3, 30, 3000, f.READING_LIMIT])
         found += [command(rng, limit) for _ in range(rng.choice([0, 1, 3, 8, 20, 60]))]
     return found
 
 
 def spoil_command(rng, found):
-    """Changes one command of the list: an operand to an edge, 10 to 18 or back, or the command left out, doubled, moved or put in."""
+    """Changes one command of the list: an operand to an edge, 10 to 18 or back, the score to an edge of 17, or the command left
+    out, doubled, moved or put in."""
     at = rng.randrange(len(found))
-    c = found[at]
-    kind = rng.randrange(9)
+    kind = rng.randrange(11)
     openers = [k for k, c in enumerate(found) if c[0] in (0x10, 0x18)]
+    scores = [k for k, c in enumerate(found) if c[0] == 0x15]
+    if kind == 10 and scores:
+        # 15 itself doubled, moved or left out.
+        at = rng.choice(scores)
+        kind = rng.choice([4, 5, 6])
+    c = found[at]
     if kind == 8 and openers:
         at = rng.choice(openers)
         found[at] = (0x28 - found[at][0], *found[at][1:])
+    elif kind == 9 and scores:
+        at = rng.choice(scores)
+        n = min(found[at][1] + rng.choice([0, 0, 1]), WORD64)
+        found[at] = (0x15, n, *divmod(n * f.SQUARE_LIMIT + rng.choice([0, 1, 2**64]), 2**64))
     elif kind < 4:
         at = rng.choice([k for k, c in enumerate(found) if len(c) > 1])
         c = list(found[at])

@@ -1,8 +1,9 @@
-"""Document 01's station cases T1 to T12, and T1 by the other rounding rule (W-211), of the second implementation."""
+"""Document 01's station cases T1 to T12, T1 by the other rounding rule (W-211), and the score of T5 and T6 and in their groups
+(W-204), of the second implementation."""
 
 import forecaster as f
 from forecaster import State
-from streams import cells
+from streams import cells, old
 
 
 def code(call, *arguments):
@@ -29,7 +30,11 @@ def hold():
     yield "T4", (after4.l, after4.b, f.forecast(after4, 2)) == (2, 2, 4)
     yield "T5", (after5.l, after5.s[0], after5.p) == (65536, 196608, 1)
     yield "T5 forecasts", [f.forecast(after5, h) for h in (1, 2, 3)] == [0, 262144, 0]
-    yield "T6", after6 == State(4, 2, 16384, 0, 32768, 0, 65536, 0, cells(196608, -65536), 0, 2)
+    yield "T5, the score", (after5.readings, after5.sum) == (1, 16)
+    yield "T6", after6 == State(4, 2, 16384, 0, 32768, 0, 65536, 0, cells(196608, -65536), 0, 2, readings=1, low=16)
+    yield "T6 saved and read", f.read_group(f.group_bytes(after6)) == (after6, 91)
+    yield "T6, an old group", f.group_bytes(f.read_group(old(after6))[0]) == old(after6)[:36] + b"\x15" + bytes(24) + old(after6)[36:]
+    yield "17", [code(f.check, State(count=2, readings=n, low=low)) for n, low in ((2, 2**53), (2, 2**53 + 1), (3, 0))] == [0, 17, 17]
     yield "T7", f.weight(straight, 3) == 11005853696
     yield "T8", f.weight(seasonal, 3) == 6979321856
     yield "T9", [code(f.check, State(model=3)), code(f.check, State(model=6, m=2, F=1))] == [5, 0]

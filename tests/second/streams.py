@@ -12,8 +12,9 @@ from forecaster import State
 V, C = f.VALUE_LIMIT, f.COUNT_LIMIT
 WORD32 = 2**32 - 1
 LOW64, HIGH64 = -(2**63), 2**63 - 1
+WORD64 = 2**64 - 1
 
-UNKNOWN = [0x00, 0x01, 0x0F, 0x15, 0x17, 0x19, 0x1F, 0x22, 0x2F, 0x32, 0x3F, 0x41, 0x80, 0xFF]
+UNKNOWN = [0x00, 0x01, 0x0F, 0x16, 0x17, 0x19, 0x1F, 0x22, 0x2F, 0x32, 0x3F, 0x41, 0x80, 0xFF]
 MODELS = [0, 1, 2, 4, 5, 6]
 TO_EVEN = [model | f.EVEN for model in MODELS]
 
@@ -31,6 +32,16 @@ def opened(x):
     return replace(x, opener=0x10 if f.usual(x.A, x.B, x.G) else 0x18)
 
 
+def scored(x, n, total):
+    """The state with n real readings and this sum (W-204)."""
+    return replace(x, readings=n, high=total >> 64, low=total % 2**64)
+
+
+def old(x):
+    """The state's group as it was before W-204, without 15."""
+    return join(*[c for c in f.group(x) if c[0] != 0x15])
+
+
 def nominal(model, m=2):
     """A state of the model with every number that it allows away from 0."""
     trend, seasonal = model & 3, model & 4 != 0
@@ -45,7 +56,10 @@ def nominal(model, m=2):
         b=-54_321 if trend else 0,
         s=cells(*[(-1) ** k * (7_000 + 999 * k) for k in range(m)]) if seasonal else cells(),
         p=m - 1 if seasonal else 0,
-        count=12,
+        count=5000,
+        readings=4900,
+        high=1,
+        low=987_654_321,
     )
 
 
@@ -58,9 +72,10 @@ QUESTIONS = [(0x30, 1), (0x30, 2), (0x30, 7), (0x31, 1, 1), (0x31, 3, 4), (0x31,
 
 
 def document():
-    """The listing of document 01 and the station cases T2 to T12 that a stream can show."""
+    """The listing of document 01, in its own form and with the score, and the station cases T2 to T12 that a stream can show."""
     first = State(A=32768)
-    yield join(f.group_bytes(first), (0x20, 10), (0x30, 2), (0x31, 2, 4))
+    for group in (old(first), f.group_bytes(first)):
+        yield join(group, (0x20, 10), (0x30, 2), (0x31, 2, 4))
     straight = State(model=1, A=32768, B=16384, F=65536, b=65536)
     yield join(f.group_bytes(straight), (0x31, 3, 1), (0x20, 3), (0x30, 3), (0x40,))
     damped = State(model=2, F=32768, b=3)
@@ -119,6 +134,7 @@ def edges():
             yield f.group_bytes(replace(x, p=p))
         for count in COUNTS:
             yield f.group_bytes(replace(x, count=count))
+            yield f.group_bytes(scored(replace(x, count=count), 0, 0))
     for m in (2, 47, 48):
         yield f.group_bytes(replace(nominal(4, m), p=m - 1))
         yield f.group_bytes(replace(nominal(4, m), p=m))
@@ -151,8 +167,9 @@ def order():
     yield join((0x10, 0, 0, 65537, 0, 0, 0), (0x20, 0))
     group = f.group_bytes(State(model=4, m=2))
     for place, value in (0, V + 1), (1, V + 1), (1, 0), (2, 0), (255, LOW64):
-        yield join(group[:36], (0x12, place, value))
-        yield join(group[:36], (0x12, 0, 0), (0x12, place, value))
+        for begun in (group[:36], group[:61]):
+            yield join(begun, (0x12, place, value))
+            yield join(begun, (0x12, 0, 0), (0x12, place, value))
     full = f.group_bytes(State(model=1, F=65536, l=V, b=V, count=C))
     for y in (1_000_001, 1_000_000, 0):
         yield join(full, (0x20, y))
@@ -168,7 +185,7 @@ def order():
             yield join(last, final, then)
     # A new group that is refused: the offset is that of the command inside it.
     x = nominal(6)
-    for bad in dict(model=3), dict(m=1), dict(F=65536), dict(B=20001), dict(opener=0x18), dict(l=V + 1), dict(b=-V - 1), dict(s=cells(0, V + 1)), dict(p=2), dict(count=C + 1):
+    for bad in dict(model=3), dict(m=1), dict(F=65536), dict(B=20001), dict(opener=0x18), dict(l=V + 1), dict(b=-V - 1), dict(s=cells(0, V + 1)), dict(p=2), dict(count=C + 1), dict(count=4899), dict(high=2):
         yield join(f.group_bytes(x), (0x20, 20), f.group_bytes(replace(x, **bad)))
 
 
@@ -208,9 +225,82 @@ def even():
     yield join((0x14,))
     yield join((0x14,), f.group_bytes(State()))
     group = f.group_bytes(nominal(4))
-    for at in (0, 19, 36, 46, 56):
+    for at in (0, 19, 36, 61, 71, 81):
         yield group[:at] + b"\x14" + group[at:]
-    yield join(group, (0x14,), (0x14,), b"\x15")
+    yield join(group, (0x14,), (0x14,), b"\x16")
+
+
+def edge_scores(count):
+    """Real readings and sums on both sides of refusal 17's edges for a state of this count, and far from them."""
+    for n in sorted({n for n in (0, 1, 4095, 4096, count - 1, count, count + 1, WORD64) if n >= 0}):
+        most = n * f.SQUARE_LIMIT
+        for total in sorted({t for t in (0, 1, most - 1, most, most + 1, WORD64, WORD64 + 1, WORD64 << 64) if t >= 0}):
+            yield n, total
+
+
+def scores():
+    """W-204: the edges of 17, and its place in the order of refusals."""
+    for count in (0, 12, 5000, 2**47, C - 1, C):
+        for n, total in edge_scores(count):
+            yield join(f.group_bytes(scored(State(A=9000, count=count), n, total)), (0x20, 20), (0x40,))
+    for model in MODELS:
+        for n, high, low in (4900, 1, WORD64), (4900, 0, WORD64), (4900, 2, 0), (5000, 1, 5), (5001, 1, 5), (4096, 1, 0), (4096, 1, 1), (0, 0, 1), (1, WORD64, 0):
+            yield join(f.group_bytes(replace(nominal(model), readings=n, high=high, low=low)), (0x20, 20), (0x40,))
+    # With 17 another fault, which is told, a command cut short among them; what stands after 13 is not looked at.
+    x = replace(nominal(6), readings=WORD64)
+    for bad in dict(model=3), dict(m=1), dict(F=0), dict(B=20001), dict(l=V + 1), dict(s=cells(0, V + 1)), dict(p=2), dict(count=C + 1):
+        yield f.group_bytes(replace(x, **bad))
+    group = f.group_bytes(x)
+    yield group[:62] + b"\x05" + group[63:]
+    yield group[:-1]
+    yield group + b"\xff"
+
+
+def squares():
+    """W-204: squares that carry into the high word, and just not; ties by both rules; the largest; what adds none."""
+    for high in (0, 7, 2**36 - 2):
+        for y in (3, -3, 1_000_000):
+            for beyond in (-1, 0, 1):
+                # The level stays 0, so that R(e) is y.
+                x = scored(State(count=C - 3), C - 3, ((high + 1) << 64) + beyond - y * y)
+                yield join(f.group_bytes(x), (0x20, y), (0x40,), (0x21,), (0x20, y), (0x40,))
+    for v in (32767, 32768, 98304, 163840, -32768, -32769, -98304, -163840):
+        # The level stays -v, so that e is v.
+        yield join(f.group_bytes(State(l=-v)), (0x20, 0), (0x40,), (0x14,), (0x20, 0), (0x40,))
+    for sign in (1, -1):
+        end = sign * V
+        for model, far in (0, {}), (1, dict(F=65536, b=end)), (4, dict(m=2, s=cells(end, end))), (5, dict(m=2, F=65536, b=end, s=cells(end, end))):
+            x = State(model=model, A=36000, l=end, count=7, **far)
+            for y in (1_000_000, -1_000_000):
+                for before in (x, scored(x, 7, 7 * f.SQUARE_LIMIT)):
+                    yield join(f.group_bytes(before), (0x20, y), (0x40,))
+    for model in MODELS:
+        yield join(f.group_bytes(nominal(model)), (0x21,), (0x40,), (0x14,), (0x30, 3), (0x31, 2, 4), (0x40,))
+
+
+def old_groups():
+    """W-204: groups without 15, which open with the score at 0 and save in the new form; 15 at each place of such a group
+    and after it, once and twice; each unknown byte of a list, and each command byte, in the place of the right one."""
+    for model in MODELS:
+        x = nominal(model, 3)
+        outside = opened(replace(x, B=65536 if model & 3 else 0, G=65536 if model & 4 else 0))
+        for y in (x, outside, replace(x, model=model | f.EVEN)):
+            group = old(y)
+            yield join(group, (0x40,), *readings(9), (0x40,), *QUESTIONS, group, (0x21,), (0x40,))
+            saved = f.group_bytes(f.play(join(group, *readings(9)))[1])
+            yield join(saved, *readings(4), (0x40,), saved, (0x40,), group, *readings(2), (0x40,))
+        for bad in dict(l=V + 1), dict(s=cells(V + 1)), dict(p=9), dict(count=0), dict(count=C), dict(count=C + 1):
+            yield join(old(replace(x, **bad)), (0x40,))
+    yield join(old(nominal(6, 48)), (0x20, 20), (0x40,))
+    for model in (0, 4):
+        parts = [c for c in f.group(nominal(model)) if c[0] != 0x15]
+        run = [(0x20, 20), (0x40,)]
+        for at in range(len(parts) + len(run) + 1):
+            for score in [(0x15, 4900, 1, 7)], [(0x15, 0, 0, 0)] * 2:
+                yield join(*(parts + run)[:at], *score, *(parts + run)[at:])
+        for at in range(len(parts)):
+            for byte in UNKNOWN + list(f.OPERANDS):
+                yield join(*parts[:at], bytes([byte]) + f.encode(*parts[at])[1:], *parts[at + 1 :], *run)
 
 
 def leaving():
@@ -272,7 +362,7 @@ def region():
         yield join(plain, b"\x10", saved[1:], *QUESTIONS)
         yield join(plain, b"\x18", plain[1:], *QUESTIONS)
         # A group that was begun: 10 and 18 are out of place in it.
-        for at in (19, 36, 46):
+        for at in (19, 36, 61, 71):
             for byte in (b"\x10", b"\x18"):
                 yield group[:at] + byte + group[at + 1 :]
     # Without trend and season 18 opens nothing.
@@ -289,7 +379,7 @@ def places():
         x = nominal(model)
         parts = [f.encode(*c) for c in f.group(x)]
         parts += [f.encode(*c) for c in ((0x20, 20), (0x21,), (0x30, 2), (0x31, 2, 4), (0x40,))]
-        parts += [f.encode(*c) for c in f.group(replace(x, count=0))]
+        parts += [f.encode(*c) for c in f.group(scored(replace(x, count=0), 0, 0))]
         at = 0
         stream = b"".join(parts)
         for part in parts:
@@ -331,6 +421,7 @@ def cut():
         x = nominal(model)
         yield join(f.group_bytes(x), (0x20, 20), (0x21,), (0x30, 2), (0x31, 2, 4), (0x40,), f.group_bytes(x), (0x20, -20))
     yield f.group_bytes(nominal(4, 48))
+    yield join(old(nominal(0)), old(nominal(5)), (0x20, 20), (0x40,))
     yield join(f.group_bytes(nominal(2 | f.EVEN)), (0x20, 20), (0x14,), (0x40,))
     yield join(f.group_bytes(opened(replace(nominal(5), A=0))), (0x40,), f.group_bytes(nominal(0)))
 
@@ -372,7 +463,7 @@ def longest():
     yield whole + whole
 
 
-PLAYED = [document, models, edges, operands, order, gaps, even, leaving, region, places, saves, damaged, long_runs]
+PLAYED = [document, models, edges, operands, order, gaps, even, scores, squares, old_groups, leaving, region, places, saves, damaged, long_runs]
 
 
 def records():

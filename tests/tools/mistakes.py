@@ -1,6 +1,8 @@
 """Texts that can't be written as a stream: status 2, nothing written, and a message with the line, the field and the value."""
 
-from harness import case, holds, play, same, tool
+from harness import case, holds, old_form, play, same, tool
+
+GROUP = "1000000080000000000000000000000000000011000005000000000000000000000000001501000000000000000000000000000000640000000000000013000100000000000000"
 
 MISTAKES = [
     # what was lost or bent
@@ -19,6 +21,7 @@ MISTAKES = [
     ("a level twice", "model none\nlevel 3\n\nl 4\n", 4, "l 4 is given a second time: level 3 stands on line 2 already"),
     ("a season twice", "model none m 3\nseason 2 5\ns 2 77\n", 3, "s 2 77 is given a second time: season 2 5 stands on line 2 already"),
     ("a count twice", "model none\ncount 1\ncount 1\n", 3, "count 1 is given a second time: count 1 stands on line 2 already"),
+    ("a score twice", "model none\nscore 1 0 4\nscore 1 0 0\n", 3, "score 1 0 0 is given a second time: score 1 0 4 stands on line 2 already"),
     # numbers that do not fit
     ("a long reading", "model none\nreading 99999999999999999999\n", 2, "reading 99999999999999999999 does not fit: -2147483648 to 2147483647"),
     (
@@ -34,6 +37,8 @@ MISTAKES = [
     ("a parameter below 0", "model none alpha -0.5\n", 1, "alpha -0.5, written as -32768 65,536ths, does not fit: 0 to 4294967295"),
     ("a long parameter", "model none A 4294967296\n", 1, "A 4294967296 does not fit: 0 to 4294967295"),
     ("a count below 0", "model none\ncount -1\n", 2, "count -1 does not fit: 0 to 18446744073709551615"),
+    ("a score below 0", "model none\nscore -1 0 0\n", 2, "score's readings -1 does not fit: 0 to 18446744073709551615"),
+    ("a long word of a score", "model none\nscore 1 0 18446744073709551616\n", 2, "score's low 18446744073709551616 does not fit: 0 to 18446744073709551615"),
     ("a long place", "model none\nlevel 4\nplace 300\n", 3, "place 300 does not fit: 0 to 255"),
     ("a long m", "model none m 256\n", 1, "m 256 does not fit: 0 to 255"),
     ("a long model byte", "model 256\n", 1, "model 256 does not fit: 0 to 255"),
@@ -70,6 +75,7 @@ MISTAKES = [
     ("an infinite number", "model none\nlevel inf\n", 2, "level inf is not a number"),
     ("a division by 0", "model none alpha 1/0\n", 1, "alpha 1/0 divides by 0"),
     ("a decimal where a whole number is due", "model none\nforecast 1.5\n", 2, "forecast's horizon 1.5 is not a whole number"),
+    ("a decimal in a score", "model none\nscore 2 0.5 0\n", 2, "score's high 0.5 is not a whole number"),
     ("a reading between two units", "model none\nreading 1/2\n", 2, "reading 1/2 is not whole at scale 1"),
     ("a reading too fine for its scale", "scale 10\nmodel none\nreading 21.55\n", 3, "reading 21.55 is not whole at scale 10"),
     # words
@@ -84,12 +90,16 @@ MISTAKES = [
     ("a switch with a number", "model none\neven 2\n", 2, "even takes no numbers"),
     ("no model", "model\n", 1, "a model is none, straight or damped, or a model byte"),
     ("a level before a model", "level 4\nmodel none\n", 1, "level belongs after a model line"),
+    ("a score before a model", "score 1 0 0\n", 1, "score belongs after a model line"),
+    ("a score after a reading", "model none\nreading 4\nscore 1 0 0\n", 3, "score belongs after a model line"),
     ("a level after a reading", "model none\nreading 4\nlevel 4\n", 3, "level belongs after a model line"),
     ("a reading without a number", "model none\nreading\n", 2, "reading takes 1 number"),
     ("a missing reading with a number", "model none\nmissing 4\n", 2, "missing takes no numbers"),
     ("a variance with one number", "model none\nvariance 4\n", 2, "variance takes 2 numbers"),
     ("a season without its place", "model none m 2\nseason 4\n", 2, "season takes a place and a number"),
     ("a level with two numbers", "model none\nlevel 4 5\n", 2, "level takes one number"),
+    ("a score with two numbers", "model none\nscore 4 5\n", 2, "score takes three numbers: the readings, and the sum's high and low word"),
+    ("a score with four", "model none\nscore 4 5 6 7\n", 2, "score takes three numbers: the readings, and the sum's high and low word"),
     ("a scale of 0", "scale 0\n", 1, "scale takes one whole number above 0"),
     ("a scale without a number", "scale\n", 1, "scale takes one whole number above 0"),
     ("half a byte", "bytes 10 f\n", 1, "bytes takes hexadecimal digits, two to a byte"),
@@ -97,7 +107,14 @@ MISTAKES = [
     ("a group that was cut", "group 10000080000000\n", 1, "the 7 bytes after group are not one whole group (bytes takes any)"),
     (
         "a group with a byte too many",
-        "group " + "10000000800000000000000000000000000000110000050000000000000000000000000013000100000000000000" + "21\n",
+        f"group {GROUP}21\n",
+        1,
+        "the 72 bytes after group are not one whole group (bytes takes any)",
+    ),
+    ("a group cut in its score", f"group {GROUP[:100]}\n", 1, "the 50 bytes after group are not one whole group (bytes takes any)"),
+    (
+        "an old group with a byte too many",
+        f"group {old_form(bytes.fromhex(GROUP)).hex()}21\n",
         1,
         "the 47 bytes after group are not one whole group (bytes takes any)",
     ),

@@ -5,7 +5,7 @@ import re
 import xml.etree.ElementTree as ElementTree
 
 import forecaster as f
-from harness import ROOT, TOOLS, case, holds, play, same, tool
+from harness import PROGRAM, ROOT, TOOLS, case, environment, holds, old_form, play, same, tool
 
 SVG = "{http://www.w3.org/2000/svg}"
 ROOM = (ROOT / "tools/room.txt").read_text()
@@ -60,9 +60,14 @@ def second(text_stream):
     return readings, levels, residuals, x
 
 
-def draw(folder, text, *words):
+def score_of(x, scale):
+    root = f"{round(math.sqrt(x.sum / x.readings) / scale, 4):.6g}"
+    return f"root mean square {root} over {x.readings} reading{'s' * (x.readings != 1)}"
+
+
+def draw(folder, text, *words, **how):
     (folder / "day.txt").write_text(text)
-    return tool("plot", folder, "day.txt", "day.svg", *words)
+    return tool("plot", folder, "day.txt", "day.svg", *words, **how)
 
 
 def check_numbers(folder, text, scale, horizon, *words, sigma2=None):
@@ -71,6 +76,7 @@ def check_numbers(folder, text, scale, horizon, *words, sigma2=None):
     ended = draw(folder, text, "--horizon", str(horizon), *words)
     same((ended.status, ended.out, ended.err), (0, b"", ""), "status, output and message")
     picture = Picture(folder / "day.svg")
+    holds(f"score: {score_of(x, scale)}" in picture.texts(), f"the score is not {score_of(x, scale)}: {picture.texts()}")
     picture.near("readings", [y / scale for y in readings if y is not None])
     picture.near("level", [level / scale for level in levels])
     forecasts = [f.forecast(x, h) / 65536 / scale for h in range(1, horizon + 1)]
@@ -134,6 +140,36 @@ def two_states(folder):
     same(Picture(folder / "day.svg").count("level"), 2, "levels")
 
 
+def score_shown(folder, text, *words, **how):
+    same(draw(folder, text, *words, **how).status, 0, "status")
+    return [text for text in Picture(folder / "day.svg").texts() if text.startswith("score")]
+
+
+@case("plot: the score of the state that stands at the end, what its group brought included")
+def scores(folder):
+    new = f.group_bytes(f.State(count=12, readings=9, low=1225))
+    brought = "model none\ncount 12\nscore 9 0 1225\n"
+    for text, words, shown in (
+        ("model none\nmissing\n", [], "no readings yet"),
+        (f"scale 10\n{brought}missing\nforecast 1\n", [], "root mean square 1.1667 over 9 readings"),
+        (f"scale 10\n{brought}reading 5\n", ["--unit", "°C"], "root mean square 1.93 °C over 10 readings"),
+        (f"group {new.hex()}\nreading 12\nsave\n", [], "root mean square 11.7004 over 10 readings"),
+        (f"group {old_form(new).hex()}\nreading 12\nsave\n", [], "root mean square 12 over 1 reading"),
+        (f"{brought}reading 5\nmodel none\nreading 3\n", [], "root mean square 3 over 1 reading"),
+    ):
+        same(score_shown(folder, text, *words), [f"score: {shown}"], text)
+
+
+@case("plot: the score is the one that the program saved, whatever its residuals say")
+def score_of_the_program(folder):
+    other = folder / "other"
+    words = f.encode(0x15, 4, 0, 64).hex()
+    other.write_text(f'#!/bin/sh\n"{PROGRAM}" | sed -E "s/^(S .{{72}})15.{{48}}/\\1{words}/"\n')
+    other.chmod(0o755)
+    found = score_shown(folder, "model none\nreading 5\n", env=environment(FORECAST_RUN=str(other)))
+    same(found, ["score: root mean square 4 over 4 readings"], "the score")
+
+
 def labels(folder, *words):
     same(draw(folder, ROOM, *words).status, 0, "status")
     return Picture(folder / "day.svg").texts()
@@ -165,6 +201,7 @@ def small(folder):
 WRONG = [
     ("a refused reading", "model none\nreading 5\nreading 1000001\n", [], 1, "day.txt, line 3: the reading is out of range"),
     ("a refused season", "model none m 2\nplace 2\nreading 5\n", [], 1, "day.txt, line 1: the place is out of range, or the count is above 2^48"),
+    ("a refused score", "model none\nlevel 5\nscore 1 0 0\nreading 5\n", [], 1, "day.txt, line 1: the score has more readings than the count, or a sum above its readings times 2^52"),
     ("a refused forecast", "model none\nreading 5\nforecast 0\n", [], 1, "day.txt, line 3: the horizon is outside 1 to 512"),
     ("bytes that are no command", "model none\nreading 5\nbytes ff\n", [], 2, "day.txt, line 3: from here on the bytes are no commands"),
     ("no state", "reading 5\n", [], 2, "day.txt: the first command opens no state"),

@@ -5,12 +5,13 @@ import signal
 import time
 
 import forecaster as f
-from harness import TOOLS, case, environment, holds, play, same, shell, started, tool
+from harness import TOOLS, case, environment, holds, old_form, play, same, shell, started, tool
 
 LISTING = "model none alpha 0.5\nreading 10\nforecast 2\nvariance 2 4\n"
 PARAMETER = "a parameter is not one the model allows, or command 18 has gains inside the usual region"
 UNUSUAL = "command 10 has gains outside the usual region: model outside opens them by 18"
 RANGE = "a level, trend or season value is out of range, or not 0 where the model has none"
+SCORE = "the score has more readings than the count, or a sum above its readings times 2^52"
 
 
 def table(*rows):
@@ -59,13 +60,13 @@ SHOWN = [
         "a refused season line",
         "model none m 4\nseason 0 1\nseason 1 1\nseason 2 1e8\nseason 3 1\nreading 4\n",
         1,
-        table((4, "season 2 1e8", "X 9 56", RANGE), "lines 5 to 6 were not played"),
+        table((4, "season 2 1e8", "X 9 81", RANGE), "lines 5 to 6 were not played"),
     ),
     (
         "a refused season that stands before the level",
         "model none m 2\nseason 1 1e8\nlevel 4\nmissing\n",
         1,
-        table((2, "season 1 1e8", "X 9 46", RANGE), "line 4 was not played"),
+        table((2, "season 1 1e8", "X 9 71", RANGE), "line 4 was not played"),
     ),
     ("a refused level", "model none\nlevel 1e9\n", 1, table((2, "level 1e9", "X 9 19", RANGE))),
     (
@@ -74,7 +75,7 @@ SHOWN = [
         1,
         table((2, "trend 4; level 1", "X 9 19", RANGE), "line 4 was not played"),
     ),
-    ("a refused place", "model none m 2\nplace 2\n", 1, table((2, "place 2", "X 10 56", "the place is out of range, or the count is above 2^48"))),
+    ("a refused place", "model none m 2\nplace 2\n", 1, table((2, "place 2", "X 10 81", "the place is out of range, or the count is above 2^48"))),
     (
         "a number that no line gave",
         "model damped\nlevel 4\n",
@@ -106,7 +107,7 @@ SHOWN = [
             (2, "even", "", EVEN),
             (3, "reading 1", "E 65536", "residual 1"),
             (4, "even", "", EVEN),
-            (5, "save", "S 10400000800000000000000000000000000...", "saved, 46 bytes"),
+            (5, "save", "S 10400000800000000000000000000000000...", "saved, 71 bytes; root mean square 1 over 1 reading"),
             (6, "even", "", EVEN),
             ("", "", "N 1", "1 step counted"),
         ),
@@ -119,16 +120,64 @@ SHOWN = [
         table(
             (1, "model even none", "O 64 0", "state opened: model 64, season length 0, ties to even"),
             (2, "even", "", EVEN),
-            (3, "reading 1000001", "X 13 47", "the reading is out of range"),
+            (3, "reading 1000001", "X 13 72", "the reading is out of range"),
             "line 4 was not played",
         ),
+    ),
+    (
+        "a score, in the units of its line",
+        "scale 10\nmodel none alpha 0.5\nsave\nreading 1\nmissing\nsave\nreading 1.2\neven\nforecast 1\nscale 1\nsave\n",
+        0,
+        table(
+            (2, "model none alpha 0.5", "O 0 0", OPENED),
+            (3, "save", "S 10000000800000000000000000000000000...", "saved, 71 bytes; no readings yet"),
+            (4, "reading 1", "E 655360", "residual 1"),
+            (5, "missing", "M", "missing reading taken"),
+            (6, "save", "S 10000000800000000000000000000000000...", "saved, 71 bytes; root mean square 1 over 1 reading"),
+            (7, "reading 1.2", "E 458752", "residual 0.7"),
+            (8, "even", "", EVEN),
+            (9, "forecast 1", "F 1 557056", "forecast 0.85 for horizon 1"),
+            (11, "save", "S 10400000800000000000000000000000000...", "saved, 71 bytes; root mean square 8.63134 over 2 readings"),
+            ("", "", "N 3", "3 steps counted"),
+        ),
+    ),
+    (
+        "the greatest score, and a reading more",
+        "model none\ncount 281474976710655\nscore 281474976710655 68719476735 18442240474082181120\nsave\nreading 1\nsave\n",
+        0,
+        table(
+            (1, "model none", "O 0 0", OPENED),
+            (4, "save", "S 10000000000000000000000000000000000...", "saved, 71 bytes; root mean square 67108864 over 281474976710655 readings"),
+            (5, "reading 1", "E 65536", "residual 1"),
+            (6, "save", "S 10000000000000000000000000000000000...", "saved, 71 bytes; root mean square 67108864 over 281474976710656 readings"),
+            ("", "", "N 281474976710656", "281474976710656 steps counted"),
+        ),
+    ),
+    (
+        "a score of more readings than steps",
+        "model none\nscore 4 0 0\nlevel 1\ncount 3\nreading 4\n",
+        1,
+        table((2, "score 4 0 0; count 3", "X 17 61", SCORE), "line 5 was not played"),
+    ),
+    ("a score whose steps no line counts", "model none m 2\nscore 1 0 0\n", 1, table((2, "score 1 0 0", "X 17 81", SCORE))),
+    (
+        "a score of too great a sum",
+        "model none\nplace 0\ncount 1\nscore 1 0 4503599627370496\nmodel none\ncount 1\nscore 1 0 4503599627370497\n",
+        1,
+        table((1, "model none", "O 0 0", OPENED), (6, "count 1; score 1 0 4503599627370497", "X 17 132", SCORE)),
+    ),
+    (
+        "a score outside a group",
+        "model none\nbytes 15" + " 00" * 24 + "\nmissing\n",
+        1,
+        table((1, "model none", "O 0 0", OPENED), (2, "bytes 15 00 00 00 00 00 00 00 00 00 0...", "X 3 71", "the command is out of place"), "line 3 was not played"),
     ),
     ("gains inside by 18", "model outside none m 2 A 3 G 65533\n", 1, table((1, "model outside none m 2 A 3 G 65533", "X 7 0", PARAMETER))),
     (
         "a refused reading",
         "model none\nreading 1000001\n# a comment\nforecast 1\n",
         1,
-        table((1, "model none", "O 0 0", OPENED), (2, "reading 1000001", "X 13 46", "the reading is out of range"), "line 4 was not played"),
+        table((1, "model none", "O 0 0", OPENED), (2, "reading 1000001", "X 13 71", "the reading is out of range"), "line 4 was not played"),
     ),
     (
         "a cut command",
@@ -136,7 +185,7 @@ SHOWN = [
         1,
         table(
             (1, "model none", "O 0 0", OPENED),
-            (2, "bytes 20 05", "X 4 46", "the bytes end inside a command or before a group is finished"),
+            (2, "bytes 20 05", "X 4 71", "the bytes end inside a command or before a group is finished"),
         ),
     ),
     (
@@ -187,9 +236,9 @@ def other_lines(folder):
 
 @case("shown: 65,536 bytes are played, 65,537 name no line")
 def limit(folder):
-    text = "model none\n" + "missing\n" * (65536 - 46)
+    text = "model none\n" + "missing\n" * (65536 - 71)
     ended = play(folder, text)
-    same((ended.status, ended.text.splitlines()[-1].split()[:2]), (0, ["N", "65490"]), "status and last line")
+    same((ended.status, ended.text.splitlines()[-1].split()[:2]), (0, ["N", "65465"]), "status and last line")
     ended = play(folder, text + "missing\n")
     row = ("", "", "X 1 0", "the input is longer than 65,536 bytes")
     same((ended.status, ended.text), (1, table(row, "nothing was played: the stream has 65,537 bytes")))
@@ -200,12 +249,38 @@ def saved(folder):
     text = "model none m 48 alpha 0.5 gamma 0.5\nreading 10\nsave\n"
     whole = play(folder, text, "--full").text.splitlines()[2]
     group = whole.split("S ")[1].split()[0]
-    same(len(group), 2 * 526, "the group's digits")
-    holds(play(folder, text).text.splitlines()[2].endswith("...  saved, 526 bytes"), "without --full the line is cut")
+    same(len(group), 2 * 551, "the group's digits")
+    short = play(folder, text).text.splitlines()[2]
+    holds(short.endswith("...  saved, 551 bytes; root mean square 10 over 1 reading"), "without --full the line is cut")
     ended = play(folder, f"group {group}\nscale 10\nreading 10\n")
     expected = f.play(bytes.fromhex(group) + f.encode(0x20, 100))[0]
     same([line[49:].split("  ")[0] for line in ended.text.splitlines()], expected, "the lines")
     holds(ended.text.splitlines()[1].startswith("    3  reading 10 "), "the reading stands beside its line")
+
+
+@case("shown: an old group opens with no readings, and is saved in the new form")
+def old_group(folder):
+    group = f.group_bytes(f.State(model=4, m=2, A=32768, G=16384, l=65536, count=70, p=1))
+    old = old_form(group)
+    same(len(old), 66, "the old group's length")
+    text = f"group {old.hex()}\nsave\nmissing\nreading 5\nsave\n"
+    stream = play(folder, text, tool_name="stream").out
+    found = tool("run", folder, "-", stdin=stream).text.splitlines()
+    same(found, f.play(old + b"\x40\x21" + f.encode(0x20, 5) + b"\x40")[0], "the lines")
+    same(found[1], f"S {group.hex()}", "the group as it is saved")
+    shown = play(folder, text).text.splitlines()
+    holds(shown[1].endswith("  saved, 91 bytes; no readings yet"), shown[1])
+    holds(shown[4].endswith("  saved, 91 bytes; root mean square 4 over 1 reading"), shown[4])
+
+
+@case("shown: a saved group that arrived cut off")
+def cut_group(folder):
+    (folder / "day.txt").write_text("model none\nsave\n")
+    for digits in ("100", "1000", f.group_bytes(f.State()).hex()[:-2], "15zz"):
+        ended = tool("stream", folder, "--explain", "--full", "day.txt", stdin=f"O 0 0\nS {digits}".encode())
+        row = (2, "save", f"S {digits}", f"saved, {len(digits) // 2} bytes")
+        last = "the program's output ends without its last line, N or X"
+        same((ended.status, ended.text, ended.err), (1, table((1, "model none", "O 0 0", OPENED), row, last), ""), digits)
 
 
 @case("shown: the example of tools/run without words")

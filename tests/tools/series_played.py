@@ -128,8 +128,8 @@ LONG = ["--model", "damped", "--alpha", "0.3", "--beta", "0.01", "--phi", "0.9"]
 def long(folder):
     values = long_series(45000)
     group = f.group_bytes(State(model=2, A=19661, B=655, F=58982, l=values[0] * FIXED_POINT))
-    expected = unlimited(group + steps(values) + f.encode(0x30, 9))
-    ended = series(folder, as_file(values), *LONG, "--then", "forecast 9")
+    expected = unlimited(group + steps(values) + f.encode(0x30, 9) + b"\x40")
+    ended = series(folder, as_file(values), *LONG, "--then", "forecast 9", "--then", "save")
     same((ended.status, ended.err), (0, ""), "status and message")
     same_lines(ended.text.splitlines(), expected)
 
@@ -157,7 +157,7 @@ def rejected_model(folder):
 @case("series: a line after the readings that the program refuses")
 def rejected_then(folder):
     ended = series(folder, "1\n", "--then", "forecast 513")
-    same(ended, (1, b"O 0 0\nE 0\nX 11 51\n", "series: forecast 513 is refused: the horizon is outside 1 to 512\n"))
+    same(ended, (1, b"O 0 0\nE 0\nX 11 76\n", "series: forecast 513 is refused: the horizon is outside 1 to 512\n"))
 
 
 @case("pieces: 250 random streams in runs of 600 bytes give what one run gives")

@@ -6,7 +6,7 @@ from dataclasses import replace
 import forecaster as f
 import random_streams
 from forecaster import State
-from harness import case, holds, play, same
+from harness import case, holds, old_form, play, same
 from lib import commands, lines, texts
 
 SEASONS = tuple(range(1, 49))
@@ -21,7 +21,7 @@ def written(folder, text):
 def wide_snapshot(m, place, value):
     """A group with any m that its byte can hold."""
     cells = b"".join(f.encode(0x12, k, value if k == place else 0) for k in range(m))
-    return f.encode(0x10, 4, m, 0, 0, 0, 0) + f.encode(0x11, 0, 0) + cells + f.encode(0x13, 0, 0)
+    return f.encode(0x10, 4, m, 0, 0, 0, 0) + f.encode(0x11, 0, 0) + f.encode(0x15, 0, 0, 0) + cells + f.encode(0x13, 0, 0)
 
 
 S = f.group_bytes
@@ -50,7 +50,10 @@ WRITTEN = [
     ("m 49", "model none m 49\ns 48 -9\n", wide_snapshot(49, 48, -9)),
     ("m 255", "model none m 255\ns 254 9\n", wide_snapshot(255, 254, 9)),
     ("edges of the widths", "model none A 4294967295\nl -9223372036854775808\nplace 255\ncount 18446744073709551615\n",
-     f.encode(0x10, 0, 0, 2**32 - 1, 0, 0, 0) + f.encode(0x11, -(2**63), 0) + f.encode(0x13, 255, 2**64 - 1)),
+     f.encode(0x10, 0, 0, 2**32 - 1, 0, 0, 0) + f.encode(0x11, -(2**63), 0) + f.encode(0x15, 0, 0, 0) + f.encode(0x13, 255, 2**64 - 1)),
+    ("a score", "model none m 2\nscore 9 0 1225\ns 1 7\ncount 12\n", S(State(model=4, m=2, s=(0, 7) + (0,) * 46, count=12, readings=9, low=1225))),
+    ("edges of a score's widths", "model none\nscore 0xffffffffffffffff 18446744073709551615 18446744073709551614\n",
+     S(State(readings=2**64 - 1, high=2**64 - 1, low=2**64 - 2))),
     ("readings at the edges", "reading -2147483648\nreading 2147483647\n", f.encode(0x20, -(2**31)) + f.encode(0x20, 2**31 - 1)),
     ("horizons at the edges", "forecast 0\nforecast 65535\nvariance 65535 4294967295\n",
      f.encode(0x30, 0) + f.encode(0x30, 65535) + f.encode(0x31, 65535, 2**32 - 1)),
@@ -63,6 +66,8 @@ WRITTEN = [
     ("no last line end", "model none\nmissing", S(State()) + b"\x21"),
     ("raw bytes", "bytes 10ff 00 AB\n", bytes.fromhex("10ff00ab")),
     ("a saved group of 18", "group " + S(State(model=1, B=1, F=65536, opener=0x18)).hex() + "\nsave\n", S(State(model=1, B=1, F=65536, opener=0x18)) + b"\x40"),
+    ("an old group", "group " + old_form(S(State(model=6, m=3, A=1, F=2, l=-3))).hex() + "\nsave\n", old_form(S(State(model=6, m=3, A=1, F=2, l=-3))) + b"\x40"),
+    ("a saved group with a score", "group " + S(State(count=5, readings=4, high=3, low=2)).hex() + "\n", S(State(count=5, readings=4, high=3, low=2))),
     ("a saved group", "group " + S(State(model=6, m=3, A=1, F=2, l=-3)).hex() + "\nsave\n", S(State(model=6, m=3, A=1, F=2, l=-3)) + b"\x40"),
 ]  # fmt: skip
 
@@ -88,7 +93,7 @@ def nearest(folder):
 
 @case("written: 65,537 bytes and more are written, for the program to refuse")
 def long_stream(folder):
-    same(len(written(folder, "model none\n" + "missing\n" * 70000)), 46 + 70000, "the length")
+    same(len(written(folder, "model none\n" + "missing\n" * 70000)), 71 + 70000, "the length")
 
 
 def random_text(rng):
@@ -98,7 +103,7 @@ def random_text(rng):
     season = f" m {x.m}" if x.m else ""
     outside = ("outside " if x.opener == 0x18 else "") + ("even " if x.model & f.EVEN else "")
     head = [f"model {outside}{names[x.trend]} A {x.A} B {x.B} G {x.G} F {x.F}{season}", f"l {x.l}", f"b {x.b}", f"place {x.p}", f"count {x.count}"]
-    rest = head[1:] + [f"s {k} {x.s[k]}" for k in range(x.m)]
+    rest = head[1:] + [f"s {k} {x.s[k]}" for k in range(x.m)] + [f"score {x.readings} {x.high} {x.low}"]
     rng.shuffle(rest)
     return "\n".join(head[:1] + rest), x
 
@@ -130,6 +135,8 @@ def snapshot_numbers(folder):
     rng = random.Random(7)
     for _ in range(200):
         x = random_streams.state(rng)
-        found, end = commands.decode_snapshot(S(x) + b"\x21")
-        same(replace(State(*found), s=found.s + (0,) * (48 - x.m)), x, "the numbers")
-        same(end, len(S(x)), "the length")
+        for group, expected in ((S(x), x), (old_form(S(x)), replace(x, readings=0, high=0, low=0))):
+            found, end = commands.decode_snapshot(group + b"\x21")
+            same(replace(State(**found._asdict()), s=found.s + (0,) * (48 - x.m)), expected, "the numbers")
+            same(end, len(group), "the length")
+            holds(not any(commands.decode_snapshot(group[:cut]) for cut in range(len(group))), "a group that was cut has numbers")

@@ -22,6 +22,7 @@ class Drawing(NamedTuple):
     forecasts: list
     deviations: list  # standard deviations, as many as forecasts, or none
     band_note: str
+    score: str
 
 
 class Frame:
@@ -164,6 +165,7 @@ def legend(drawing, y):
     for symbol, words in legend_entries(drawing):
         yield f'<g transform="translate({x:.1f},{y})">{symbol}</g>' + label(x + 31, y, words, "start", fill=INK)
         x += 31 + CHARACTER * len(words) + 20
+    yield label(LEFT, HEIGHT - 10, drawing.score, "start", 11)
     if drawing.band_note:
         yield label(RIGHT, HEIGHT - 10, drawing.band_note, "end", 11)
 

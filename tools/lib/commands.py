@@ -42,6 +42,7 @@ def fields(*pairs):
 
 
 MODEL, LEVEL, SEASON, POSITION = 0x10, 0x11, 0x12, 0x13
+SCORE = 0x15  # the real readings and the sum of their squared residuals; a group saved before there was one has none
 OUTSIDE = 0x18  # opens a group as MODEL does, for gains outside the usual region
 OPENERS = (MODEL, OUTSIDE)
 TO_EVEN = 0x14  # switches the state to rounding with ties to even
@@ -56,6 +57,7 @@ COMMANDS = {
         Command(MODEL, "", "O", MODEL_FIELDS),
         Command(OUTSIDE, "", "O", MODEL_FIELDS),
         Command(LEVEL, "", "", fields("l:q", "b:q")),
+        Command(SCORE, "", "", fields("readings:Q", "high:Q", "low:Q")),
         Command(SEASON, "", "", fields("place:B", "s:q")),
         Command(POSITION, "", "", fields("place:B", "count:Q")),
         Command(TO_EVEN, "even", "", ()),
@@ -66,8 +68,8 @@ COMMANDS = {
         Command(SAVE, "save", "S", ()),
     )
 }
-ONLY_IN_SNAPSHOT = (LEVEL, SEASON, POSITION)
-LONGEST_SNAPSHOT = sum(COMMANDS[byte].length for byte in (MODEL, LEVEL, POSITION)) + 255 * COMMANDS[SEASON].length
+ONLY_IN_SNAPSHOT = (LEVEL, SCORE, SEASON, POSITION)
+LONGEST_SNAPSHOT = sum(COMMANDS[byte].length for byte in (MODEL, LEVEL, SCORE, POSITION)) + 255 * COMMANDS[SEASON].length
 CODES = {field.name: field.code for command in COMMANDS.values() for field in command.fields}
 
 
@@ -109,6 +111,9 @@ class Snapshot(NamedTuple):
     p: int
     count: int
     opener: int  # MODEL or OUTSIDE
+    readings: int  # these three are 0 in an old group
+    high: int
+    low: int
 
 
 class Decoded(NamedTuple):
@@ -129,17 +134,18 @@ def operands_at(stream, at, *due):
 
 
 def decode_snapshot(stream, at=0):
-    """The Snapshot of the group at the offset, whatever its numbers, and the offset after it; None where there is none."""
+    """The Snapshot of the group at the offset, new or old, whatever its numbers, and the offset after it; None: there is none."""
     head = operands_at(stream, at, *OPENERS)
     level = head and operands_at(stream, head[1], LEVEL)
-    seasonal, last = [], level
+    score = level and (operands_at(stream, level[1], SCORE) or ((0, 0, 0), level[1]))
+    seasonal, last = [], score
     for _ in range(head[0][1] if level else 0):
         last = last and operands_at(stream, last[1], SEASON)
         seasonal.append(last and last[0][1])
     position = last and operands_at(stream, last[1], POSITION)
     if not position:
         return None
-    return Snapshot(*head[0], *level[0], tuple(seasonal), *position[0], stream[at]), position[1]
+    return Snapshot(*head[0], *level[0], tuple(seasonal), *position[0], stream[at], *score[0]), position[1]
 
 
 def decode(stream):

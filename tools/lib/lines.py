@@ -6,11 +6,13 @@ A new line is a row of MEANINGS, a new command without one of SILENT, a new refu
 import bisect
 import collections
 import itertools
+import math
+import re
 from fractions import Fraction
 from typing import NamedTuple
 
 from lib.cli import Failure
-from lib.commands import COMMANDS, EVEN, TO_EVEN, decode
+from lib.commands import COMMANDS, EVEN, TO_EVEN, decode, decode_snapshot
 from lib.numerals import FIXED_POINT, counted, readable
 
 REJECTIONS = {
@@ -30,6 +32,7 @@ REJECTIONS = {
     14: "the count already stands at 2^48",
     15: "a new level, trend or season value would leave its range",
     16: "command 10 has gains outside the usual region: model outside opens them by 18",
+    17: "the score has more readings than the count, or a sum above its readings times 2^52",
 }
 TOO_LONG = 1  # the refusal that names no command
 
@@ -42,6 +45,21 @@ def variance_units(high, low, scale):
     return Fraction(int(high) * 2**64 + int(low), 2**32 * scale**2)
 
 
+def score(snapshot, scale, unit="", decimals=None):
+    """How close the forecasts were: the root mean square of the residuals that the state has scored, in the user's units."""
+    if snapshot.readings == 0:
+        return "no readings yet"
+    root = math.sqrt(Fraction(snapshot.high * 2**64 + snapshot.low, snapshot.readings)) / scale
+    root = root if decimals is None else round(root, decimals)
+    return f"root mean square {readable(root)}{unit} over {counted(snapshot.readings, 'reading')}"
+
+
+def saved(digits, scale):
+    """A saved group with its score, where it did not arrive cut off."""
+    whole = re.fullmatch("([0-9a-f]{2})*", digits) and decode_snapshot(bytes.fromhex(digits))
+    return f"saved, {len(digits) // 2} bytes" + (f"; {score(whole[0], scale)}" if whole else "")
+
+
 def opened(model, m):
     return f"state opened: model {model}, season length {m}{', ties to even' if int(model) & EVEN else ''}"
 
@@ -52,7 +70,7 @@ MEANINGS = {
     "M": lambda scale: "missing reading taken",
     "F": lambda scale, horizon, value: f"forecast {units(value, scale)} for horizon {horizon}",
     "V": lambda scale, horizon, high, low: f"variance {readable(variance_units(high, low, scale))} for horizon {horizon}",
-    "S": lambda scale, digits: f"saved, {len(digits) // 2} bytes",
+    "S": lambda scale, digits: saved(digits, scale),
     "X": lambda scale, code, offset: REJECTIONS.get(int(code), "a refusal this tool does not know"),
     "N": lambda scale, count: f"{counted(count, 'step')} counted",
 }

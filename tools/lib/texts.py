@@ -6,13 +6,15 @@ from typing import NamedTuple
 
 from lib import commands
 from lib.cli import Mistake, shown
-from lib.commands import EVEN, LEVEL, MODEL, OUTSIDE, POSITION, SEASON, COMMANDS, encode, fitted, in_words
+from lib.commands import EVEN, LEVEL, MODEL, OUTSIDE, POSITION, SCORE, SEASON, COMMANDS, encode, fitted, in_words
 from lib.numerals import decimal, nearest, whole
 
 TRENDS = {"none": 0, "straight": 1, "damped": 2}
 STRAIGHT, SEASONAL = 1, 4  # the trend's bits and the season's bit of the model byte
 PARAMETERS = {"alpha": "A", "beta": "B", "gamma": "G", "phi": "F"}
-STATE_WORDS = {"level": "l", "l": "l", "trend": "b", "b": "b", "season": "s", "s": "s", "place": "place", "count": "count"}
+LETTERED = {"level": "l", "l": "l", "trend": "b", "b": "b", "season": "s", "s": "s"}
+STATE_WORDS = {**LETTERED, "place": "place", "count": "count", "score": "score"}
+SCORE_FIELDS = tuple(field.name for field in COMMANDS[SCORE].fields)
 IN_UNITS = ("level", "trend", "season")
 SINGLE = {command.word: command for command in COMMANDS.values() if command.word}
 
@@ -79,6 +81,9 @@ class Description:
     def describe(self, words, source):
         """Takes a line such as `level 21.5` or `s 3 32768`."""
         name, rest = words[0], words[1:]
+        if name == "score":
+            self.describe_score(rest, source)
+            return
         letter = STATE_WORDS[name]
         if len(rest) != (2 if letter == "s" else 1):
             raise Mistake(f"{name} takes {'a place and a number' if letter == 's' else 'one number'}")
@@ -89,6 +94,13 @@ class Description:
         value = nearest(decimal(field, rest[-1]) * self.scale) if name in IN_UNITS else whole(field, rest[-1])
         said = in_words(field, rest[-1], value, " 65,536ths" if name in IN_UNITS else "")
         self.give(key, fitted(letter, value, said), f"{field} {rest[-1]}", source)
+
+    def describe_score(self, rest, source):
+        if len(rest) != len(SCORE_FIELDS):
+            raise Mistake("score takes three numbers: the readings, and the sum's high and low word")
+        for field, word in zip(SCORE_FIELDS, rest):
+            said = f"score's {field}"
+            self.give(field, fitted(field, whole(said, word), f"{said} {word}"), f"score {' '.join(rest)}", source)
 
     def seasonal_index(self, name, word):
         index, m = whole(f"{name}'s place", word), self.value("m")
@@ -111,8 +123,10 @@ class Description:
         value, m = self.value, self.value("m")
         made = [(encode(self.opener, self.byte, m, *map(value, "ABGF")), (self.source,))]
         made.append((encode(LEVEL, value("l"), value("b")), self.sources("l", "b")))
+        made.append((encode(SCORE, *map(value, SCORE_FIELDS)), self.sources(*SCORE_FIELDS)))
         made += [(encode(SEASON, k, value(("s", k))), self.sources(("s", k))) for k in range(m)]
-        made.append((encode(POSITION, value("place"), value("count")), self.sources("place", "count")))
+        # the score is tested here too, beside the count
+        made.append((encode(POSITION, value("place"), value("count")), self.sources("place", "count", *SCORE_FIELDS)))
         return [Piece(data, sources, self.scale) for data, sources in made]
 
 
@@ -157,7 +171,8 @@ def hexadecimal(words):
 
 
 def saved_snapshot(words):
-    """A group as an S line has it. One that was cut when it was copied is told here; `bytes` takes anything."""
+    """A group as an S line has it, or had it before there was a score. One that was cut when it was copied is told here;
+    `bytes` takes anything."""
     data = hexadecimal(words)
     found = commands.decode_snapshot(data)
     if found is None or found[1] != len(data):

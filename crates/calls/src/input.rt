@@ -1,5 +1,6 @@
 // The numbers of the records, one after the other, low byte first; 0 where the input has ended.
 use libc::STDIN_FILENO;
+use state::Score;
 use state::State;
 ghost use Prim.Native.Nat.{_<_};
 
@@ -97,6 +98,14 @@ pub fn next_readings<'a>(space: &'a mut [i32], n: usize) -> &'a mut [i32] {
     &mut space[..i]
 }
 
+fn next_score() -> Score {
+    Score {
+        readings: next_u64(),
+        high: next_u64(),
+        low: next_u64(),
+    }
+}
+
 // A state as it stands, whatever its numbers.
 pub fn next_state() -> State {
     let seasonal = next_season();
@@ -113,5 +122,6 @@ pub fn next_state() -> State {
         seasonal,
         index: next_byte(),
         count: next_u64(),
+        score: next_score(),
     }
 }

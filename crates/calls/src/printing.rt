@@ -1,6 +1,7 @@
 // What the program writes: numbers, each before a blank.
 use libc::STDOUT_FILENO;
 use lines::magnitude;
+use state::Score;
 use state::State;
 
 pub fn print_number(n: u64) {
@@ -44,6 +45,12 @@ fn print_season(cells: &[i64; 48]) {
     print_values(cells);
 }
 
+fn print_score(s: Score) {
+    print_number(s.readings);
+    print_number(s.high);
+    print_number(s.low);
+}
+
 pub fn print_state(s: State) {
     let cells = s.seasonal;
     print_code(s.outside as u8);
@@ -61,5 +68,6 @@ pub fn print_state(s: State) {
     );
     print_code(s.index);
     print_number(s.count);
+    print_score(s.score);
     print_season(&cells);
 }

@@ -1,9 +1,10 @@
--- T1 to T12 and W-211: each row of the table holds, since both sides compute to the same.
+-- T1 to T12, W-211 and W-204: each row of the table holds, since both sides compute to the same.
 use mathlib.Core.Path.{refl}
 use Rattle.state.specs.Fixed.{R, share}
 use Rattle.integers.specs.Below.{allBelow}
+use Rattle.state.specs.Scores.{sumOf, sumOk}
 use Rattle.state.specs.States.{check, parametersCode}
-use Rattle.ets.specs.Steps.{dampedTrend, seasonDue, residual, newLevel, newTrend, newSeason, newSeasonal, nextIndex, advanced, missingCode, stepCode, step, missing}
+use Rattle.ets.specs.Steps.{dampedTrend, seasonDue, residual, newLevel, newTrend, newSeason, newSeasonal, squareOf, scoreAfter, nextIndex, advanced, missingCode, stepCode, step, missing}
 use Rattle.forecasts.specs.Forecasts.{trendAt, trendLine, seasonAt, forecastOf, forecastCodeTo, forecastTo}
 use Rattle.weights.specs.Weights.{dampingSum, trendTerm, seasonTerm, coefficient, squares, weightOf, weight, variance}
 use Rattle.cases.specs.Cases.{Every, table}
@@ -13,7 +14,7 @@ _and_ : {A B : Type 0} → A → B → A × B
 a and b = (a, b)
 
 pub all-rows : Every table
-unfolding Every R share allBelow check parametersCode dampedTrend seasonDue residual newLevel newTrend newSeason newSeasonal nextIndex advanced missingCode stepCode step missing trendAt trendLine seasonAt forecastOf forecastCodeTo forecastTo dampingSum trendTerm seasonTerm coefficient squares weightOf weight variance table
+unfolding Every R share allBelow sumOf sumOk check parametersCode dampedTrend seasonDue residual newLevel newTrend newSeason newSeasonal squareOf scoreAfter nextIndex advanced missingCode stepCode step missing trendAt trendLine seasonAt forecastOf forecastCodeTo forecastTo dampingSum trendTerm seasonTerm coefficient squares weightOf weight variance table
 all-rows =
     -- T1
     refl and refl and refl and refl
@@ -41,4 +42,6 @@ all-rows =
     and refl
     -- W-211
     and refl and refl and refl and refl and refl and refl and refl
+    -- W-204
+    and refl and refl and refl and refl and refl and refl and refl and refl
     and tt

@@ -9,8 +9,7 @@ use Rattle.state.specs.declared.State.{State}
 use Rattle.ets.specs.Steps.{step}
 use Rattle.forecasts.specs.Forecasts.{maxHorizon, forecast}
 use Rattle.snapshot.specs.Snapshots.{decoded}
-use Rattle.snapshot.specs.Slices.{inPlaceCode}
-use Rattle.saving.specs.InPlace.{inPlaceStepBytes, inPlaceForecastCode, inPlaceForecast}
+use Rattle.saving.specs.InPlace.{rewriteCode, inPlaceStepBytes, inPlaceForecastCode, inPlaceForecast}
 use Rattle.traces.specs.Calls.{followed, Reading, Forecast, InPlaceReading, InPlaceForecast, result}
 use Rattle.traces.proofs.Lists.{slice-laws}
 use Rattle.drift.specs.Limits.{Claim}
@@ -21,8 +20,9 @@ pub directly : (s : State) (y : ℤ) (h : ℕ) → ForecastWithin s (Reading y) 
 unfolding Claim result
 directly s y h o = demand3 s o (Reading y ∷ Forecast maxHorizon h ∷ []) .1 .0
 
-pub in-place : (d : List ℕ) → ((i : ℕ) → getD d i 0 < 256) → inPlaceCode d ≡ 0 → (y : ℤ) (h : ℕ) (old : ℤ) → ForecastWithin (decoded d) (InPlaceReading (followed []) y) h (inPlaceForecastCode (inPlaceStepBytes d y) h) (inPlaceForecast (inPlaceStepBytes d y) h old)
+pub in-place : (d : List ℕ) → ((i : ℕ) → getD d i 0 < 256) → rewriteCode d ≡ 0 → (y : ℤ) (h : ℕ) (old : ℤ) → ForecastWithin (decoded d) (InPlaceReading (followed []) y) h (inPlaceForecastCode (inPlaceStepBytes d y) h) (inPlaceForecast (inPlaceStepBytes d y) h old)
 unfolding Claim result
 in-place d b z y h old o =
-    let next = slice-laws .reading d (decoded d) (slice-laws .opening d b z) y .bytes in
-    rw next (demand3 (decoded d) o (InPlaceReading (followed []) y ∷ InPlaceForecast (followed []) h old ∷ []) .1 .0)
+    let next = slice-laws .reading d (decoded d) (slice-laws .opening d b z) y .holds in
+    let f = slice-laws .forecast (inPlaceStepBytes d y) _ next h in
+    rw (f .code, f .number old) (demand3 (decoded d) o (InPlaceReading (followed []) y ∷ InPlaceForecast (followed []) h old ∷ []) .1 .0)

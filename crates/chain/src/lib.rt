@@ -11,8 +11,7 @@ ghost use Rattle.state.specs.Rejections.{answerCode, answerValue};
 ghost use Rattle.forecasts.specs.Forecasts.{forecast};
 ghost use Rattle.ets.specs.Steps.{step};
 ghost use Rattle.snapshot.specs.Snapshots.{decoded};
-ghost use Rattle.snapshot.specs.Slices.{inPlaceCode};
-ghost use Rattle.saving.specs.InPlace.{inPlaceStepBytes, inPlaceResidual, inPlaceForecastCode, inPlaceForecast};
+ghost use Rattle.saving.specs.InPlace.{rewriteCode, inPlaceStepBytes, inPlaceResidual, inPlaceForecastCode, inPlaceForecast};
 ghost use Rattle.traces.specs.Calls.{followed, Reading, InPlaceReading};
 ghost use Rattle.chain.specs.Chains.{ForecastWithin};
 
@@ -26,7 +25,7 @@ pub fn step_then_forecast(s: State, y: i32, h: u32) -> Answer
     forecast(next, h)
 }
 
-// The same in place, by the station's calls: the rejection of the forecast, or 0.
+// The same in place, by the station's calls: the rejection of the forecast, or 0. The slice may hold an old snapshot, with room for the new one.
 pub fn step_then_forecast_in_place(
     snapshot: &mut [u8],
     y: i32,
@@ -38,7 +37,7 @@ pub fn step_then_forecast_in_place(
     ensures bytes { λ _. ⌜ now (snapshot .exit) ≡ inPlaceStepBytes (now (snapshot .entry)) y ⌝ }
     ensures number { λ _. ⌜ now (residual .exit) ≡ inPlaceResidual (now (snapshot .entry)) y (now (residual .entry)) ⌝ }
     ensures forecast { λ _. ⌜ now (value .exit) ≡ inPlaceForecast (inPlaceStepBytes (now (snapshot .entry)) y) h (now (value .entry)) ⌝ }
-    ensures limit { λ r. ⌜ (inPlaceCode (now (snapshot .entry)) ≡ 0 → ForecastWithin (decoded (now (snapshot .entry))) (InPlaceReading (followed []) y) h r (now (value .exit))) ⌝ }
+    ensures limit { λ r. ⌜ (rewriteCode (now (snapshot .entry)) ≡ 0 → ForecastWithin (decoded (now (snapshot .entry))) (InPlaceReading (followed []) y) h r (now (value .exit))) ⌝ }
 {
     forecaster_step(snapshot, y, residual);
     forecaster_forecast(snapshot, h, value)

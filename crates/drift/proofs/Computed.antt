@@ -3,22 +3,23 @@ use mathlib.Core.Path.{refl}
 use mathlib.Core.List.{List, [], _∷_}
 use Prim.Native.Nat.{ℕ, _<_}
 use native.Mathlib.Omega.{arith}
-use lib.Dec.{le→leb, leb→le}
+use lib.Dec.{le→leb, leb→le, lit<}
 use lib.IntN.{ℤ, pos}
 use lib.ListN.{getD-replicate}
 use borrow.Author.Tests.{eq-eqb}
 use Rattle.state.specs.Fixed.{R, share}
 use Rattle.integers.specs.Below.{allBelow}
+use Rattle.state.specs.Scores.{sumOf, sumOk}
 use Rattle.state.specs.States.{check, parametersCode}
 use Rattle.state.specs.Switching.{switchToEven}
-use Rattle.ets.specs.Steps.{dampedTrend, seasonDue, newLevel, newTrend, newSeason, newSeasonal, nextIndex, stepCode, advanced, missingCode, step, missing, residual}
+use Rattle.ets.specs.Steps.{dampedTrend, seasonDue, newLevel, newTrend, newSeason, newSeasonal, squareOf, scoreAfter, nextIndex, stepCode, advanced, missingCode, step, missing, residual}
 use Rattle.ets.specs.Batches.{takeCode, afterTake, run, batchRun, batch, batchLevels}
 use Rattle.forecasts.specs.Forecasts.{trendAt, trendLine, seasonAt, forecastOf, forecastList, forecastTo, forecastCellsTo, forecastsTo, forecastCodeTo, forecastsCodeTo}
 use Rattle.layout.specs.Bytes.{fromBytes}
 use Rattle.layout.specs.CommandTable.{commandSize, isCommand}
-use Rattle.snapshot.specs.Snapshots.{dueCode, modelCode, levelCode, seasonCode, positionCode, scanSeasons, scan, cellsAt, decoded}
+use Rattle.snapshot.specs.Snapshots.{dueCode, modelCode, levelCode, scoreCode, seasonCode, positionCode, scanSeasons, scan, cellsAt, decoded}
 use Rattle.snapshot.specs.Slices.{inPlaceCode}
-use Rattle.saving.specs.Encoding.{toBytes, modelBytes, levelBytes, seasonBytes, seasonsBytes, positionBytes, encoded}
+use Rattle.saving.specs.Encoding.{toBytes, modelBytes, levelBytes, scoreBytes, seasonBytes, seasonsBytes, positionBytes, encoded}
 use Rattle.saving.specs.InPlace.{inPlaceStepCode, inPlaceStepBytes, inPlaceMissingCode, inPlaceMissingBytes, inPlaceSwitchBytes, inPlaceForecastCode, inPlaceForecast}
 use Rattle.traces.specs.Calls.{result, after}
 use Rattle.drift.specs.Exact.{Parameters, exactDamped, exactResidual, adjusted, exactSeason, exactTake, exactBatch, exactTrendAt, exactLine, exactForecast, exactAfter, Expected, expectedLevels, expectedForecasts, expected}
@@ -37,7 +38,7 @@ index-refused k l h =
     le→leb 2 0 (rw (getD-replicate 48 k (pos 0) (pos 0) l, eq-eqb k k refl) at (h .seasons k (omega arith)))
 
 refused : Refused
-unfolding Claim AtMost WithinLimit result check parametersCode allBelow R share dampedTrend seasonDue residual newLevel newTrend newSeason newSeasonal nextIndex stepCode takeCode afterTake run batchRun batch batchLevels trendAt trendLine seasonAt forecastOf forecastCodeTo forecastTo forecastList forecastsCodeTo forecastsTo forecastCellsTo fromBytes toBytes commandSize isCommand dueCode modelCode levelCode seasonCode scanSeasons positionCode scan cellsAt decoded modelBytes levelBytes seasonBytes seasonsBytes positionBytes encoded inPlaceCode inPlaceForecastCode inPlaceForecast inPlaceSwitchBytes switchToEven exactDamped exactResidual adjusted exactSeason exactTake exactTrendAt exactLine exactForecast expectedLevels expectedForecasts exactAfter expected
+unfolding Claim AtMost WithinLimit result check parametersCode allBelow sumOf sumOk R share dampedTrend seasonDue residual newLevel newTrend newSeason newSeasonal squareOf scoreAfter nextIndex stepCode takeCode afterTake run batchRun batch batchLevels trendAt trendLine seasonAt forecastOf forecastCodeTo forecastTo forecastList forecastsCodeTo forecastsTo forecastCellsTo fromBytes toBytes commandSize isCommand dueCode modelCode levelCode scoreCode seasonCode scanSeasons positionCode scan cellsAt decoded modelBytes levelBytes scoreBytes seasonBytes seasonsBytes positionBytes encoded inPlaceCode inPlaceForecastCode inPlaceForecast inPlaceSwitchBytes switchToEven exactDamped exactResidual adjusted exactSeason exactTake exactTrendAt exactLine exactForecast expectedLevels expectedForecasts exactAfter expected
 refused =
     record {
       level-one = λ h. le→leb _ _ (h .level);
@@ -63,11 +64,11 @@ refused =
     }
 
 attained : Attained
-unfolding creep creepAcross after beside result check parametersCode allBelow R share dampedTrend seasonDue residual newLevel newTrend newSeason newSeasonal nextIndex advanced stepCode step switchToEven trendAt trendLine seasonAt forecastOf exactDamped exactResidual adjusted exactSeason exactTrendAt exactLine exactForecast exactAfter
+unfolding creep creepAcross after beside result check parametersCode allBelow sumOf sumOk R share dampedTrend seasonDue residual newLevel newTrend newSeason newSeasonal squareOf scoreAfter nextIndex advanced stepCode step switchToEven trendAt trendLine seasonAt forecastOf exactDamped exactResidual adjusted exactSeason exactTrendAt exactLine exactForecast exactAfter
 attained = record { half = refl; plain-sixteen = refl; even-sixteen = refl; across = refl; step = leb→le _ _ tt; missing = refl; damped-one = refl; damped-eight = leb→le _ _ tt }
 
 needed : Needed
-unfolding AtMost WithinLimit falling gaps after beside result check parametersCode allBelow R share dampedTrend seasonDue residual newLevel newTrend newSeason newSeasonal nextIndex stepCode step advanced missingCode missing trendAt trendLine seasonAt forecastOf forecastCodeTo forecastTo exactDamped exactResidual adjusted exactSeason exactTrendAt exactLine exactForecast exactAfter expected
+unfolding AtMost WithinLimit falling gaps after beside result check parametersCode allBelow sumOf sumOk R share dampedTrend seasonDue residual newLevel newTrend newSeason newSeasonal squareOf scoreAfter nextIndex stepCode step advanced missingCode missing trendAt trendLine seasonAt forecastOf forecastCodeTo forecastTo exactDamped exactResidual adjusted exactSeason exactTrendAt exactLine exactForecast exactAfter expected
 needed =
     record {
       level-alone = (refl, refl, λ h. le→leb _ _ h);
@@ -78,19 +79,19 @@ needed =
     }
 
 opens : Opening opening
-unfolding check parametersCode allBelow
-opens = record { cells = refl; passes = refl; trendless = refl }
+unfolding check parametersCode allBelow sumOf sumOk
+opens = record { typed = record { cells = refl; low = lit< tt }; passes = refl; trendless = refl }
 
 opens-outside : Opening (creeping (pos 0))
-unfolding check parametersCode allBelow
-opens-outside = record { cells = refl; passes = refl; trendless = refl }
+unfolding check parametersCode allBelow sumOf sumOk
+opens-outside = record { typed = record { cells = refl; low = lit< tt }; passes = refl; trendless = refl }
 
 stepped : StepError (damped 0 1 (pos 0) (pos 1000000)) (pos 0)
-unfolding AtMost R share dampedTrend seasonDue residual newLevel newTrend newSeason newSeasonal nextIndex exactDamped exactResidual adjusted exactSeason
+unfolding AtMost R share dampedTrend seasonDue residual newLevel newTrend newSeason newSeasonal squareOf scoreAfter nextIndex exactDamped exactResidual adjusted exactSeason
 stepped = record { level = leb→le _ _ tt; trend = leb→le _ _ tt; seasons = λ k l. absurd (omega arith) }
 
 shown : Shown
-unfolding compared calls after result switchToEven inPlaceSwitchBytes check parametersCode allBelow R share dampedTrend seasonDue residual newLevel newTrend newSeason newSeasonal nextIndex stepCode advanced missingCode step missing takeCode afterTake run batchRun batch batchLevels trendAt trendLine seasonAt forecastOf forecastCodeTo forecastTo forecastList forecastsCodeTo forecastsTo forecastCellsTo fromBytes toBytes commandSize isCommand dueCode modelCode levelCode seasonCode scanSeasons positionCode scan cellsAt decoded modelBytes levelBytes seasonBytes seasonsBytes positionBytes encoded inPlaceCode inPlaceStepCode inPlaceStepBytes inPlaceMissingCode inPlaceMissingBytes inPlaceForecastCode inPlaceForecast exactDamped exactResidual adjusted exactSeason exactTake exactBatch exactTrendAt exactLine exactForecast exactAfter expectedLevels expectedForecasts expected
+unfolding compared calls after result switchToEven inPlaceSwitchBytes check parametersCode allBelow sumOf sumOk R share dampedTrend seasonDue residual newLevel newTrend newSeason newSeasonal squareOf scoreAfter nextIndex stepCode advanced missingCode step missing takeCode afterTake run batchRun batch batchLevels trendAt trendLine seasonAt forecastOf forecastCodeTo forecastTo forecastList forecastsCodeTo forecastsTo forecastCellsTo fromBytes toBytes commandSize isCommand dueCode modelCode levelCode scoreCode seasonCode scanSeasons positionCode scan cellsAt decoded modelBytes levelBytes scoreBytes seasonBytes seasonsBytes positionBytes encoded inPlaceCode inPlaceStepCode inPlaceStepBytes inPlaceMissingCode inPlaceMissingBytes inPlaceForecastCode inPlaceForecast exactDamped exactResidual adjusted exactSeason exactTake exactBatch exactTrendAt exactLine exactForecast exactAfter expectedLevels expectedForecasts expected
 shown = record { step = stepped; opens = opens; opens-outside = opens-outside; holds = demand3 opening opens calls; rule-before = refl; rule-after = refl; short = refl; compares = refl }
 
 pub pins : Pins

@@ -31,7 +31,7 @@ module _ (s : State) (o : Opening s) where
   start =
       record {
         passes = o .passes;
-        cells = o .cells;
+        typed = o .typed;
         flat = rw (o .trendless);
         index = refl;
         bare = λ h k. rw h;

@@ -7,15 +7,16 @@ use native.Mathlib.Numerals.{add-one}
 use native.Mathlib.Omega.{arith}
 use lib.Dec.{T, ltb, ltb→lt, nltb→le}
 use lib.IntN.{ℤ, pos}
-use lib.ListN.{length, getD, set, length-set}
+use lib.ListN.{length, getD}
 use Rattle.models.specs.Models.{hasTrend, hasSeason}
-use Rattle.state.specs.States.{check}
+use Rattle.state.specs.States.{Typed, check}
 use Rattle.state.specs.Switching.{switched}
 use Rattle.state.specs.declared.State.{State}
 use Rattle.state.proofs.Passing.{bounded, no-season, with-season}
 use Rattle.state.proofs.Switches.{switch-law}
 use Rattle.ets.specs.Steps.{termsOf, nextIndex, newSeason, newSeasonal, residualOf, afterReading, afterMissing}
 use Rattle.ets.specs.Promises.{held}
+use Rattle.ets.proofs.Kept.{reading-typed}
 use Rattle.ets.proofs.MissingLaws.{after-held}
 use Rattle.drift.proofs.Averages.{D, negD, zeroD, Same, StepBelow, half-mix, half-keep, plain-mix}
 use Rattle.drift.proofs.Cycles.{CycleInvariant, negs, inv-step, inv-wrap}
@@ -29,7 +30,7 @@ Sized a e d = (2 * a * d .1 ≤ 2 * a * d .0 + e) × (2 * a * d .0 ≤ 2 * a * d
 
 pub record Good (c : Parameters) (s : State) (x : Exact) : Type 0 where
   pub passes : check s ≡ 0
-  pub cells : length (s .seasonal) ≡ 48
+  pub typed : Typed s
   pub flat : hasTrend (s .model) ≡ false
   pub index : x .p ≡ s .index
   pub bare : c .seasonal ≡ false → (k : ℕ) → x .S k ≡ pos 0
@@ -77,7 +78,7 @@ module _ (s : State) (x : Exact) (w : Good (parametersOf s) s x) where
   hG = omega (arith, bounded s (w .passes) .gamma)
 
   fits : s .index < length (s .seasonal)
-  fits = omega (arith, bounded s (w .passes) .index, w .cells)
+  fits = omega (arith, bounded s (w .passes) .index, w .typed .cells)
 
   none : hasSeason (s .model) ≡ false → (s .gamma ≡ 0) × ((k : ℕ) → x .S k ≡ pos 0)
   none h = (no-season s (w .passes) h .gamma, w .bare h)
@@ -133,16 +134,12 @@ module _ (s : State) (x : Exact) (w : Good (parametersOf s) s x) where
         inv-next 4294967296 (65536 * B) (65536 * s .gamma) (65536 * C) (s .period) (4294967296 * power x) (s .index) (nextIndex (s .period) (s .index)) (levelErr s′ x′) (seasonErr s′ x′) hG (omega arith) (with-season s (w .passes) h .index) (next (s .period) (s .index))
         (inv-step 4294967296 (65536 * s .alpha) (65536 * B) (65536 * s .gamma) (65536 * C) (s .period) (power x) (s .index) (levelErr s x) (seasonErr s x) (levelErr s′ x′) (seasonErr s′ x′) hA hG (with-season s (w .passes) h .index) below above (w .cycle h a g z))
 
-    cells′ : (b : Bool) (v : ℤ) → length (cond b (set (s .seasonal) (s .index) v) (s .seasonal)) ≡ 48
-    cells′ true v = length-set (s .seasonal) (s .index) v ∙ w .cells
-    cells′ false v = w .cells
-
     pub good-reading : check (afterReading s y) ≡ 0 → Good (parametersOf s) (afterReading s y) (exactReading (parametersOf s) x y)
     unfolding s′ x′ newSeasonal exactSeason
     good-reading ok =
         record {
           passes = ok;
-          cells = cells′ (hasSeason (s .model)) (newSeason (termsOf s) (residualOf s y));
+          typed = reading-typed s y (w .typed);
           flat = w .flat;
           index = ap (nextIndex (s .period)) (w .index);
           bare = λ h k. rw h;
@@ -166,7 +163,7 @@ module _ (s : State) (x : Exact) (w : Good (parametersOf s) s x) where
   held-good ok =
       record {
         passes = ok;
-        cells = w .cells;
+        typed = record { cells = w .typed .cells; low = w .typed .low };
         flat = w .flat;
         index = ap (nextIndex (s .period)) (w .index);
         bare = w .bare;
@@ -188,7 +185,7 @@ good-switch c s x w =
     let law = switch-law s in
     record {
       passes = law .checks ∙ w .passes;
-      cells = w .cells;
+      typed = record { cells = w .typed .cells; low = w .typed .low };
       flat = law .trend ∙ w .flat;
       index = w .index;
       bare = w .bare;

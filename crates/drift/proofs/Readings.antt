@@ -13,6 +13,7 @@ use borrow.Author.Tests.{eq-eqb, ne-eqb}
 use Rattle.integers.proofs.Difference.{diff, known, up, dn, sum, scaled}
 use Rattle.state.specs.Fixed.{share}
 use Rattle.models.specs.Models.{hasTrend, hasSeason, tiesToEven}
+use Rattle.state.specs.declared.Score.{Score}
 use Rattle.state.specs.declared.State.{State}
 use Rattle.state.proofs.Rounding.{share-none}
 use Rattle.ets.specs.Steps.{termsOf, dampedTrend, seasonDue, residualOf, newLevel, newSeason, newSeasonal, corrected, afterReading, residual}
@@ -103,18 +104,18 @@ module _ (c : Parameters) (x : Exact) (y : ℤ) (p : ℕ) (flat : c .trended ≡
       ∙ kept-law (x .S k) (exactResidual c x y))
 
 -- the rounded ones
-module _ (s : State) (e : ℤ) (flat : dampedTrend s ≡ pos 0) (none : hasSeason (s .model) ≡ false → s .gamma ≡ 0) (fits : s .index < length (s .seasonal)) where
-  level-new : Same (parts (corrected s e .level)) (addD (parts (s .level)) (parts (share (tiesToEven (s .model)) (s .alpha) e)))
+module _ (s : State) (e : ℤ) (score : Score) (flat : dampedTrend s ≡ pos 0) (none : hasSeason (s .model) ≡ false → s .gamma ≡ 0) (fits : s .index < length (s .seasonal)) where
+  level-new : Same (parts (corrected s e score .level)) (addD (parts (s .level)) (parts (share (tiesToEven (s .model)) (s .alpha) e)))
   unfolding newLevel
   level-new = omega (arith, sum (s .level +ℤ dampedTrend s) (share (tiesToEven (s .model)) (s .alpha) e), sum (s .level) (dampedTrend s), ap up flat, ap dn flat)
 
-  value-new : Same (parts (valueAt (corrected s e) (s .index))) (addD (parts (valueAt s (s .index))) (parts (share (tiesToEven (s .model)) (s .gamma) e)))
+  value-new : Same (parts (valueAt (corrected s e score) (s .index))) (addD (parts (valueAt s (s .index))) (parts (share (tiesToEven (s .model)) (s .gamma) e)))
   unfolding newSeasonal newSeason seasonDue
   value-new =
       rw (stored-here (hasSeason (s .model)) (s .seasonal) (s .index) (newSeason (termsOf s) e) fits)
       (moved (hasSeason (s .model)) (getD (s .seasonal) (s .index) (pos 0)) (share (tiesToEven (s .model)) (s .gamma) e) (λ h. rw (none h) (share-none (tiesToEven (s .model)) e)))
 
-  value-other : (k : ℕ) → k ≢ s .index → valueAt (corrected s e) k ≡ valueAt s k
+  value-other : (k : ℕ) → k ≢ s .index → valueAt (corrected s e score) k ≡ valueAt s k
   unfolding newSeasonal
   value-other k h = stored-there (hasSeason (s .model)) (s .seasonal) (s .index) k (newSeason (termsOf s) e) h
 
@@ -153,19 +154,19 @@ module _ (s : State) (x : Exact) (y : ℤ) (B C : ℕ) (hA : 65536 * s .alpha + 
   unfolding s′ x′
   there k h =
       rw (power-next (x .n))
-      (kept (power x) (valueAt s k) (valueAt (afterReading s y) k) (x .S k) (exactReading (parametersOf s) x y .S k) (value-other s (residualOf s y) flat (λ h. none h .0) fits k h) (S-there (parametersOf s) x y (s .index) trendless same-p none k h))
+      (kept (power x) (valueAt s k) (valueAt (afterReading s y) k) (x .S k) (exactReading (parametersOf s) x y .S k) (value-other s (residualOf s y) (afterReading s y .score) flat (λ h. none h .0) fits k h) (S-there (parametersOf s) x y (s .index) trendless same-p none k h))
 
   levels : Both (4294967296 * power x) (levelErr s′ x′) (mix (65536 * B) (levelErr s x) (65536 * s .alpha) (seasonErr s x (s .index)))
   unfolding s′ x′
   levels =
       rw (power-next (x .n))
-      (corrected-both (tiesToEven (s .model)) (power x) (s .alpha) B hA (residualOf s y) (E (parametersOf s) x y (s .index) trendless same-p none) (s .level) (x .L) (valueAt s (s .index)) (x .S (s .index)) (s′ .level) (x′ .L) (level-new s (residualOf s y) flat (λ h. none h .0) fits) (L-new (parametersOf s) x y (s .index) trendless same-p none) residuals)
+      (corrected-both (tiesToEven (s .model)) (power x) (s .alpha) B hA (residualOf s y) (E (parametersOf s) x y (s .index) trendless same-p none) (s .level) (x .L) (valueAt s (s .index)) (x .S (s .index)) (s′ .level) (x′ .L) (level-new s (residualOf s y) (afterReading s y .score) flat (λ h. none h .0) fits) (L-new (parametersOf s) x y (s .index) trendless same-p none) residuals)
 
   values : Both (4294967296 * power x) (negD (seasonErr s′ x′ (s .index))) (mix (65536 * C) (negD (seasonErr s x (s .index))) (65536 * s .gamma) (negD (levelErr s x)))
   unfolding s′ x′
   values =
       rw (power-next (x .n))
-      (corrected-both (tiesToEven (s .model)) (power x) (s .gamma) C hG (residualOf s y) (E (parametersOf s) x y (s .index) trendless same-p none) (valueAt s (s .index)) (x .S (s .index)) (s .level) (x .L) (valueAt s′ (s .index)) (x′ .S (s .index)) (value-new s (residualOf s y) flat (λ h. none h .0) fits) (S-here (parametersOf s) x y (s .index) trendless same-p none) (swapped _ _ _ residuals))
+      (corrected-both (tiesToEven (s .model)) (power x) (s .gamma) C hG (residualOf s y) (E (parametersOf s) x y (s .index) trendless same-p none) (valueAt s (s .index)) (x .S (s .index)) (s .level) (x .L) (valueAt s′ (s .index)) (x′ .S (s .index)) (value-new s (residualOf s y) (afterReading s y .score) flat (λ h. none h .0) fits) (S-here (parametersOf s) x y (s .index) trendless same-p none) (swapped _ _ _ residuals))
 
   pub reading-below : StepBelow 4294967296 (65536 * s .alpha) (65536 * B) (65536 * s .gamma) (65536 * C) (power x) (s .index) (levelErr s x) (seasonErr s x) (levelErr (afterReading s y) (exactReading (parametersOf s) x y)) (seasonErr (afterReading s y) (exactReading (parametersOf s) x y))
   unfolding s′ x′

@@ -32,7 +32,7 @@ Kept c s x = (parametersOf s ≡ c) × Good c s x
 module _ (c : Parameters) (s : State) (x : Exact) (w : Kept c s x) where
   kept-reading : (y : ℤ) → stepCode s y ≡ 0 → Kept c (afterReading s y) (exactReading c x y)
   kept-reading y z =
-      (w .0, subst (λ (c : Parameters). Good c s x → Good c (afterReading s y) (exactReading c x y)) (w .0) (λ g. good-reading s x g y (reading-kept s y (g .cells) z)) (w .1))
+      (w .0, subst (λ (c : Parameters). Good c s x → Good c (afterReading s y) (exactReading c x y)) (w .0) (λ g. good-reading s x g y (reading-kept s y (g .typed .cells) z)) (w .1))
 
   kept-missing : missingCode s ≡ 0 → Kept c (afterMissing s) (exactMissing c x)
   kept-missing z =
@@ -113,7 +113,7 @@ module _ (c : Parameters) (s : State) (x : Exact) (w : Kept c s x) where
   all-within zero = none
   all-within (suc h) = each-append c (all-within h) (more (forecast-within c s x w (suc h)) none)
 
-  fine-works : {r : Result} → Works s r → Fine c x r
+  fine-works : {q : List ℕ} {r : Result} → Works s q r → Fine c x r
   unfolding exactAfter expected
   fine-works (reads y n f) =
       (by-code (λ b. Kept c (cond b (afterReading s y) s) (cond b (exactReading c x y) x)) n (λ z. kept-reading c s x w y (f z)) w, nothing n)
@@ -127,7 +127,7 @@ module _ (c : Parameters) (s : State) (x : Exact) (w : Kept c s x) where
       (w, by-code (λ b. EachWithin c (cond b zs []) (cond b (expectedForecasts c x h) [])) n (λ z. rw (f z) (all-within h)) none)
 
   fine-call : (k : Call) → Fine c x (result s k)
-  fine-call k = fine-works (works s (w .1 .cells) (w .1 .passes) k)
+  fine-call k = fine-works (works s (w .1 .typed) (w .1 .passes) k)
 
 -- ---- a list of calls
 pub claim : (c : Parameters) (ks : List Call) (s : State) (x : Exact) → Kept c s x → Claim c s x ks

@@ -6,7 +6,7 @@ use mathlib.Core.Path.{_≡_}
 use lib.IntN.{ℤ, pos, natAbs, _-ℤ_, _*ℤ_}
 use lib.ListN.{length, getD}
 use Rattle.models.specs.Models.{trendOf}
-use Rattle.state.specs.States.{check}
+use Rattle.state.specs.States.{Typed, check}
 use Rattle.state.specs.declared.State.{State}
 use Rattle.traces.specs.Calls.{Call, result}
 use Rattle.drift.specs.Exact.{Parameters, parametersOf, Exact, opened, exactAfter, Expected, level-is, forecast-is, expected}
@@ -61,9 +61,9 @@ Claim c s x (k ∷ ks) =
     let r = result s k in
     EachWithin c (r .numbers) (expected c x (r .event)) × Claim c (r .state) (exactAfter c x (r .event)) ks
 
--- a state of a trendless model that checks 5, 6, 7, 16, 9 and 10 let pass (the array of a state has 48 cells)
+-- a state of a trendless model that checks 5, 6, 7, 16, 9, 10 and 17 let pass (and that the types of the code hold)
 pub record Opening (s : State) : Type 0 where
-  pub cells : length (s .seasonal) ≡ 48
+  pub typed : Typed s
   pub passes : check s ≡ 0
   pub trendless : trendOf (s .model) ≡ 0
 

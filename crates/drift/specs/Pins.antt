@@ -9,6 +9,7 @@ use lib.IntN.{ℤ, pos, negsuc}
 use lib.ListN.{replicate}
 use Rattle.models.specs.Models.{usualGains, tiesToEven}
 use Rattle.state.specs.Rejections.{truncated}
+use Rattle.state.specs.Scores.{noScore}
 use Rattle.state.specs.States.{stateOf}
 use Rattle.state.specs.declared.State.{State}
 use Rattle.ets.specs.Steps.{afterReading, afterMissing}
@@ -22,14 +23,14 @@ use Rattle.drift.specs.ForecastErrors.{exactFrom, DampedBound}
 
 -- ---- states, at place 0: a season of m places, opened by 18 where A + G is above 65,536; a damped trend
 abbrev pub seasonal : ℕ → ℕ → ℕ → ℤ → List ℤ → State
-seasonal m A G l values = stateOf (not (usualGains A 0 G)) 4 m A 0 G 0 l (pos 0) values 0 0
+seasonal m A G l values = stateOf (not (usualGains A 0 G)) 4 m A 0 G 0 l (pos 0) values 0 0 noScore
 
 abbrev pub damped : ℕ → ℕ → ℤ → ℤ → State
-damped A F l b = stateOf false 2 0 A 0 0 F l b [] 0 0
+damped A F l b = stateOf false 2 0 A 0 0 F l b [] 0 0 noScore
 
 -- α = 1/2, so that 1/(2α) is 1
 abbrev pub plain : ℤ → State
-plain l = stateOf false 0 0 32768 0 0 0 l (pos 0) [] 0 0
+plain l = stateOf false 0 0 32768 0 0 0 l (pos 0) [] 0 0 noScore
 
 -- an exact recursion that stands at L and n, with S at one place (the others are 0)
 abbrev pub standing : ℤ → ℕ → ℕ → ℤ → Exact
@@ -151,7 +152,7 @@ pub record Needed : Type 0 where
 -- (11), the calls in place with a byte after the snapshot (3) and the one with a byte too few (4), the batch at its third reading (13), and the last reading, for the
 -- count is then full (14)
 abbrev pub opening : State
-opening = stateOf false 4 2 20000 0 30001 0 (pos 0) (pos 0) (pos 65536 ∷ negsuc 65535 ∷ []) 0 281474976710651
+opening = stateOf false 4 2 20000 0 30001 0 (pos 0) (pos 0) (pos 65536 ∷ negsuc 65535 ∷ []) 0 281474976710651 noScore
 
 unfoldable pub calls : List Call
 calls =
@@ -167,10 +168,10 @@ calls =
     ∷ InPlaceReading (followed []) (pos 3)
     ∷ InPlaceForecast (followed []) 2 (pos 7)
     ∷ InPlaceReading (followed (0x21 ∷ [])) (pos 4)
-    ∷ InPlaceReading (cut 65) (pos 4)
-    ∷ InPlaceSwitch (cut 66)
+    ∷ InPlaceReading (cut 90) (pos 4)
+    ∷ InPlaceSwitch (cut 91)
     ∷ Batch (pos 1 ∷ negsuc 2147483647 ∷ pos 1000001 ∷ pos 2 ∷ []) (replicate 5 (pos 9))
-    ∷ InPlaceMissing (cut 66)
+    ∷ InPlaceMissing (cut 91)
     ∷ Forecast maxHorizon 1
     ∷ Reading (pos 1)
     ∷ []
@@ -185,7 +186,7 @@ pub record Shown : Type 0 where
   -- ties went up before the switch and go to even after the list
   pub rule-before : tiesToEven (after opening (Reading (pos 5) ∷ InPlaceSwitch (followed (0x14 ∷ [])) ∷ []) .model) ≡ false
   pub rule-after : tiesToEven (after opening calls .model) ≡ true
-  pub short : inPlaceCode (sliceOf opening (cut 65)) ≡ truncated
+  pub short : inPlaceCode (sliceOf opening (cut 90)) ≡ truncated
   pub compares : compared (parametersOf opening) opening (opened opening) calls
       ≡ ([], [])
       ∷ ([], [])

@@ -1,5 +1,6 @@
 pub mod StepLaws
 pub mod UpdateLaws
+pub mod ScoreLaws
 pub mod Kept
 pub mod BatchLaws
 pub mod MissingLaws

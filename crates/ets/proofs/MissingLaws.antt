@@ -10,7 +10,7 @@ use Rattle.models.specs.Models.{hasTrend, tiesToEven}
 use Rattle.state.specs.Rejections.{_then_, outcome}
 use Rattle.state.specs.States.{check}
 use Rattle.state.specs.declared.State.{State}
-use Rattle.state.proofs.Tests.{then-zero}
+use Rattle.state.proofs.Tests.{then-zero, then-none}
 use Rattle.state.proofs.Rounding.{share-zero}
 use Rattle.state.proofs.Passing.{passed, valid, no-trend}
 use Rattle.ets.specs.Steps.{dampedTrend, seasonDue, termsOf, newLevel, newTrend, newSeason, advanced, corrected, afterMissing, countCode, gapCode, missingCode, missing}
@@ -37,10 +37,6 @@ module _ (s : State) (flat : hasTrend (s .model) ≡ false) where
   unfolding missingCode
   code-held = go (check s) refl
     where
-      then-none : (n : ℕ) → (n then 0) ≡ n
-      then-none zero = refl
-      then-none (suc n) = rw (eqb·suc-zero n)
-
       go : (n : ℕ) → check s ≡ n → (n then gapCode (termsOf s) (s .count)) ≡ (n then countCode (s .count))
       go zero ok = rw (level-held, passed s ok .level) (then-none (countCode (s .count)))
       go (suc n) e = rw (eqb·suc-zero n)
@@ -60,7 +56,7 @@ module _ (s : State) (flat : hasTrend (s .model) ≡ false) where
   trendless = record { code = code-held; after = λ z. after-held (missing-facts s z .valid); call = call-held }
 
 -- ---- with residual 0 each gain's share is 0
-step-zero : (s : State) → check s ≡ 0 → afterMissing s ≡ corrected s (pos 0)
+step-zero : (s : State) → check s ≡ 0 → afterMissing s ≡ corrected s (pos 0) (s .score)
 unfolding advanced newLevel newTrend newSeason
 step-zero s ok =
     let v = valid s ok in

@@ -15,7 +15,7 @@ abbrev pub heldCode : State → ℕ
 heldCode s = check s then countCode (s .count)
 
 abbrev pub held : State → State
-held s = moved s (s .level) (s .trend) (s .seasonal) (nextIndex (s .period) (s .index)) (s .count + 1)
+held s = moved s (s .level) (s .trend) (s .seasonal) (nextIndex (s .period) (s .index)) (s .count + 1) (s .score)
 
 abbrev pub heldMissing : State → Missed
 heldMissing s = record { state = accepting (heldCode s) (held s) (λ _. s); outcome = outcome (heldCode s) }
@@ -29,5 +29,5 @@ pub record Trendless (s : State) : Type 0 where
 pub record MissingLaws : Type 0 where
   -- trendless models keep it
   pub trendless : (s : State) → hasTrend (s .model) ≡ false → Trendless s
-  -- of every model it is the step with residual 0, on a state that passes
-  pub step : (s : State) → check s ≡ 0 → afterMissing s ≡ corrected s (pos 0)
+  -- of every model it is the step with residual 0 that leaves the score, on a state that passes
+  pub step : (s : State) → check s ≡ 0 → afterMissing s ≡ corrected s (pos 0) (s .score)

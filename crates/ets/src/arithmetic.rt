@@ -6,6 +6,7 @@ use state::BAD_READING;
 use state::COUNT_FULL;
 use state::LEAVES_RANGE;
 use state::MAX_COUNT;
+use state::Score;
 use state::State;
 use state::checks::in_range;
 use state::checks::is_reading;
@@ -17,9 +18,9 @@ ghost use Prim.Native.Nat.{_≤_, _<_};
 ghost use Rattle.integers.specs.Bounds.{Within};
 ghost use Rattle.state.specs.Rejections.{unless, _then_, bad-reading};
 ghost use Rattle.state.specs.Fixed.{R, share, inRange, isReading};
-ghost use Rattle.ets.specs.Steps.{residual, nextIndex, countCode};
+ghost use Rattle.ets.specs.Steps.{residual, squareOf, scoreAfter, nextIndex, countCode};
 ghost use Rattle.ets.specs.Updates.{numbersOf, termsAt, corrections, notUpdated, readingUpdate, advance, missingUpdate};
-ghost use Rattle.ets.specs.Bounds.{NumbersIn, AdvanceIn, TermsIn};
+ghost use Rattle.ets.specs.Bounds.{NumbersIn, AdvanceIn, TermsIn, ScoreIn};
 
 // R(v): what is added before the shift makes it round to nearest. For ties to even it is one less where the whole part is even, without a branch.
 fn round(even: bool, v: i64) -> i64
@@ -79,6 +80,45 @@ fn residual(t: Terms, y: i32) -> i64
     ensures bound { λ r. ⌜ Within 3364070883328 r ⌝ }
 {
     65536 * (y as i64) - (t.level + t.damped + t.season)
+}
+
+// The square of R(e).
+fn square(even: bool, e: i64) -> u64
+    requires { ⌜ Within 3364070883328 e ⌝ }
+    ensures value { λ r. ⌜ r ≡ squareOf even e ⌝ }
+    ensures bound { λ r. ⌜ r ≤ 4503599627370496 ⌝ }
+{
+    let r = round(even, e);
+    (r * r) as u64
+}
+
+// A square in the sum, and one reading more: what leaves the low word goes into the high one.
+fn add_square(score: Score, square: u64) -> Score
+    requires { ⌜ ScoreIn score × (square ≤ 4503599627370496) ⌝ }
+    ensures { λ r. ⌜ r ≡ scoreAfter score square ⌝ }
+{
+    let room = u64::MAX - square;
+    let readings = score.readings + 1;
+    if score.low <= room {
+        return Score {
+            readings,
+            high: score.high,
+            low: score.low + square,
+        };
+    }
+    Score {
+        readings,
+        high: score.high + 1,
+        low: score.low - room - 1,
+    }
+}
+
+// The score after a reading with residual e.
+pub fn score_after(even: bool, score: Score, e: i64) -> Score
+    requires { ⌜ ScoreIn score × Within 3364070883328 e ⌝ }
+    ensures { λ r. ⌜ r ≡ scoreAfter score (squareOf even e) ⌝ }
+{
+    add_square(score, square(even, e))
 }
 
 fn corrections(t: Terms, e: i64) -> Update

@@ -6,9 +6,11 @@ use super::arithmetic::missing_update;
 use super::arithmetic::next_index;
 use super::arithmetic::numbers_of;
 use super::arithmetic::reading_update;
+use super::arithmetic::score_after;
 use models::ties_to_even;
 use state::Answer;
 use state::Outcome;
+use state::Score;
 use state::State;
 use state::checks::check;
 ghost use mathlib.Core.Path.{_≡_};
@@ -36,10 +38,10 @@ fn rejected_missing(s: State, n: u8) -> Missed
     }
 }
 
-// The state one step on, with an update's numbers.
-fn store(s: State, u: Update) -> State
+// The state one step on, with an update's numbers and a score.
+fn store(s: State, u: Update, score: Score) -> State
     requires { ⌜ (s .index < 48) × (s .count < maxCount) ⌝ }
-    ensures { λ r. ⌜ r ≡ stored s u ⌝ }
+    ensures { λ r. ⌜ r ≡ stored s u score ⌝ }
 {
     let p = s.index as usize;
     let mut next = s;
@@ -49,6 +51,7 @@ fn store(s: State, u: Update) -> State
     next.seasonal[p] = season;
     next.index = next_index(s.period, s.index);
     next.count = s.count + 1;
+    next.score = score;
     next
 }
 
@@ -59,14 +62,16 @@ pub fn step(s: State, y: i32) -> Stepped
     if n != 0 {
         return rejected_step(s, n);
     }
-    let u = reading_update(ties_to_even(s.model), numbers_of(s), y);
+    let even = ties_to_even(s.model);
+    let u = reading_update(even, numbers_of(s), y);
     let k = u.code;
     if k != 0 {
         return rejected_step(s, k);
     }
     let e = u.residual;
+    let score = score_after(even, s.score, e);
     Stepped {
-        state: store(s, u),
+        state: store(s, u, score),
         residual: Answer::Accepted(e),
     }
 }
@@ -84,7 +89,7 @@ pub fn missing(s: State) -> Missed
         return rejected_missing(s, k);
     }
     Missed {
-        state: store(s, u),
+        state: store(s, u, s.score),
         outcome: Outcome::Accepted,
     }
 }

@@ -4,16 +4,20 @@ use super::Update;
 use super::arithmetic::missing_update;
 use super::arithmetic::not_updated;
 use super::arithmetic::reading_update;
+use super::arithmetic::score_after;
 use models::ONE;
 use state::BAD_PARAMETER;
 use state::BAD_POSITION;
 use state::BAD_VALUE;
+use state::Score;
 use state::checks::count_ok;
 use state::checks::in_range;
+use state::checks::is_residual;
+use state::checks::score_ok;
 use state::first;
 use state::unless;
 ghost use mathlib.Core.Path.{_≡_};
-ghost use Rattle.ets.specs.Updates.{gainsOk, rangesOk, numbersCode, update, advanceCode, updateMissing};
+ghost use Rattle.ets.specs.Updates.{gainsOk, rangesOk, numbersCode, update, advanceCode, updateMissing, updateScore};
 
 fn gains_ok(n: Numbers) -> bool
     ensures { λ r. ⌜ r ≡ gainsOk n ⌝ }
@@ -70,4 +74,15 @@ pub fn update_missing(even: bool, n: Numbers) -> Update
         return not_updated(code);
     }
     missing_update(even, n)
+}
+
+// The score after a reading with residual e. A score that no state has, or a residual that no reading has, leaves it.
+pub fn update_score(even: bool, count: u64, score: Score, e: i64) -> Score
+    ensures { λ r. ⌜ r ≡ updateScore even count score e ⌝ }
+{
+    let ok = count_ok(count) & score_ok(count, score) & is_residual(e);
+    if ok {
+        return score_after(even, score, e);
+    }
+    score
 }

@@ -6,6 +6,7 @@ use borrow.Author.Tests.{le-leb, lt-leb, ne-eqb}
 use Rattle.integers.specs.Below.{allBelow}
 use Rattle.state.specs.Rejections.{_then_, bad-horizon}
 use Rattle.state.specs.Fixed.{R, share}
+use Rattle.state.specs.Scores.{sumOf, sumOk}
 use Rattle.state.specs.States.{check, parametersCode}
 use Rattle.state.specs.declared.State.{State}
 use Rattle.state.proofs.Tests.{then-zero}
@@ -40,7 +41,7 @@ module _ (s : State) (h : ℕ) where
       record { one = rw (e, n); all = λ room. rw (e, n, n); cells = λ cells. rw (e, n, n) }
 
 at-the-limit : AtTheLimit
-unfolding R share check parametersCode allBelow trendAt trendLine seasonAt forecastOf forecastCodeTo forecastTo
+unfolding sumOf sumOk R share check parametersCode allBelow trendAt trendLine seasonAt forecastOf forecastCodeTo forecastTo
 at-the-limit = record { last = refl; next = refl; phone = refl }
 
 pub display-laws : DisplayLaws

@@ -5,6 +5,7 @@ use mathlib.Core.List.{List, []}
 use mathlib.Core.Path.{_≡_}
 use lib.IntN.{ℤ, pos}
 use Rattle.state.specs.Rejections.{_then_, bad-horizon}
+use Rattle.state.specs.Scores.{noScore}
 use Rattle.state.specs.States.{stateOf, check}
 use Rattle.state.specs.declared.State.{State}
 use Rattle.state.specs.declared.Answer.the-variants as answer-of
@@ -39,7 +40,7 @@ pub record AboveLimit (s : State) (h : ℕ) : Type 0 where
 
 -- computed: a level that rises by one reading unit a step
 abbrev pub rising : State
-rising = stateOf false 1 0 0 0 0 65536 (pos 0) (pos 65536) [] 0 0
+rising = stateOf false 1 0 0 0 0 65536 (pos 0) (pos 65536) [] 0 0 noScore
 
 pub record AtTheLimit : Type 0 where
   pub last : displayForecast rising 48 ≡ answer-of.Accepted (pos 3145728)

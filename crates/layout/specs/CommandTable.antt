@@ -1,4 +1,4 @@
--- Document 01, "Commands", and document 02, W-201 (18) and W-211 (14): each command's first byte, its length with its operands, and whether only a snapshot (the paper's group) holds it.
+-- Document 01, "Commands", and document 02, W-201 (18), W-211 (14) and W-204 (15): each command's first byte, its length with its operands, and whether only a snapshot (the paper's group) holds it.
 use Prim.Native.Nat.{ℕ}
 use mathlib.Core.Bool.{Bool, true, false, cond, not, _||_}
 use mathlib.Core.List.{List, [], _∷_}
@@ -14,6 +14,10 @@ modelLength = 19
 -- l, b of 64 bits
 abbrev pub levelLength : ℕ
 levelLength = 17
+
+-- readings, high and low word of the sum, of 64 bits
+abbrev pub scoreLength : ℕ
+scoreLength = 25
 
 -- place byte, value of 64 bits
 abbrev pub seasonLength : ℕ
@@ -38,6 +42,7 @@ commands =
     ∷ command 0x12 seasonLength true
     ∷ command 0x13 positionLength true
     ∷ command 0x14 1 false
+    ∷ command 0x15 scoreLength true
     ∷ command 0x18 modelLength false
     ∷ command 0x20 5 false
     ∷ command 0x21 1 false
@@ -57,7 +62,7 @@ commandSize b = sizeIn commands b
 unfoldable pub isCommand : ℕ → Bool
 isCommand b = not (eqb (commandSize b) 0)
 
--- 11, 12 and 13
+-- 11, 12, 13 and 15
 abbrev pub innerIn : List Command → ℕ → Bool
 innerIn [] b = false
 innerIn (c ∷ cs) b = cond (eqb b (c .first)) (c .inner) (innerIn cs b)

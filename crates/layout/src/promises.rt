@@ -6,7 +6,7 @@ pub fn lengths()
     ensures { λ _. ⌜ Lengths ⌝ }
 {}
 
-// A snapshot's length by its formula: the commands' lengths add up to it.
+// A snapshot's length by its formula, with command 15 and without: the commands' lengths add up to it.
 pub fn sizes()
     ensures { λ _. ⌜ Sizes ⌝ }
 {}

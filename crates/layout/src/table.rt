@@ -8,6 +8,8 @@ pub const MODEL_LENGTH: usize = 19;
 
 pub const LEVEL_LENGTH: usize = 17;
 
+pub const SCORE_LENGTH: usize = 25;
+
 pub const SEASON_LENGTH: usize = 10;
 
 pub const POSITION_LENGTH: usize = 10;
@@ -26,6 +28,7 @@ pub fn entry_of(b: u8) -> Entry
         0x12 => Entry(SEASON_LENGTH, true),
         0x13 => Entry(POSITION_LENGTH, true),
         0x14 => Entry(1, false),
+        0x15 => Entry(SCORE_LENGTH, true),
         0x18 => Entry(MODEL_LENGTH, false),
         0x20 => Entry(5, false),
         0x21 => Entry(1, false),

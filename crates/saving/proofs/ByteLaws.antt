@@ -73,6 +73,9 @@ module _ (s : List ℕ) (at : ℕ) where
       let f : fromBytes (take 8 (drop at s)) < 256 ^ 8 = fromBytes-lt 8 (drop at s) (bytes-drop at s b) in
       rw (ofZ-toZ w64 (unsignedAt s at 8) (record { fits = f })) (unsigned-again 8 b h)
 
+  pub unsigned-lt : (k : ℕ) → AreBytes s → unsignedAt s at k < 256 ^ k
+  unsigned-lt k b = fromBytes-lt k (drop at s) (bytes-drop at s b)
+
   pub unsigned-back : (k n : ℕ) → take k (drop at s) ≡ toBytes k n → n < 256 ^ k → unsignedAt s at k ≡ n
   unsigned-back k n e h = rw e (fromBytes-toBytes k n h)
 

@@ -1,23 +1,27 @@
 -- A call in place works on the numbers of its slice: they are those of the state that the slice holds, and what is written is the snapshot of the next one.
 use Prim.Native.Nat.{ℕ, _+_, _-_, _%_, _≤_, _<_}
 use mathlib.Core.Path.{_≡_, refl, sym, ap, _∙_}
-use mathlib.Core.Bool.{Bool, true, false, cond, _||_}
+use mathlib.Core.Bool.{Bool, true, false, cond, _||_, false≢true}
 use mathlib.Core.List.{List}
 use native.Mathlib.Nat.{mod-lt}
 use native.Mathlib.Omega.{arith}
-use borrow.Author.Tests.{eq-eqb, ne-eqb, eqb-true, eqb-false, ltb-true}
-use lib.Dec.{eqb}
+use borrow.Author.Tests.{eq-eqb, ne-eqb, eqb-true, eqb-false, leb-true, le-leb, ltb-true}
+use lib.Dec.{eqb, leb}
 use lib.IntN.{ℤ, pos}
 use lib.ListN.{length, getD, set}
 use Rattle.integers.specs.Bounds.{Within}
 use Rattle.integers.proofs.Bounds.{within-zero}
+use Rattle.state.specs.Rejections.{unless, _then_, short-buffer}
 use Rattle.state.specs.Fixed.{maxCount}
 use Rattle.models.specs.Models.{hasSeason, tiesToEven}
+use Rattle.state.specs.Scores.{noScore}
 use Rattle.state.specs.States.{check, indexOk, countOk}
+use Rattle.state.specs.declared.Score.{Score}
 use Rattle.state.specs.declared.State.{State}
+use Rattle.state.proofs.Tests.{unless-zero, then-zero, then-first}
 use Rattle.state.proofs.Passing.{bounded, no-season, with-season}
 use Rattle.integers.proofs.Tests.{both}
-use Rattle.ets.specs.Steps.{dampedTrend, termsOf, residualOf, newLevel, newTrend, newSeason, newSeasonal, nextIndex, afterReading, advanced, afterMissing, corrected, stepCode, missingCode}
+use Rattle.ets.specs.Steps.{dampedTrend, termsOf, residualOf, newLevel, newTrend, newSeason, newSeasonal, squareAt, scoreAfter, nextIndex, afterReading, advanced, afterMissing, corrected, stepCode, missingCode}
 use Rattle.forecasts.specs.Forecasts.{seasonAt as seasonAhead}
 use Rattle.ets.specs.Updates.{numbersOf, corrections, update, advance, updateMissing}
 use Rattle.ets.specs.declared.Numbers.{Numbers}
@@ -25,18 +29,19 @@ use Rattle.ets.specs.declared.Update.{Update}
 use Rattle.ets.proofs.StepLaws.{step-facts}
 use Rattle.ets.proofs.UpdateLaws.{update-code, update-is, update-missing-is}
 use Rattle.layout.specs.Bytes.{AreBytes}
-use Rattle.layout.specs.Layout.{periodIn, seasonIn, indexIn, countIn}
-use Rattle.snapshot.specs.Snapshots.{openCode, cellsAt, decoded}
-use Rattle.snapshot.specs.Slices.{inPlaceCode, numbersIn, checkedIn, notOpened, openedIn}
+use Rattle.layout.specs.CommandTable.{scoreLength}
+use Rattle.layout.specs.Layout.{scoreAt, endAt, sizeOf, scoredIn, periodIn, scoreIn, seasonIn, indexIn, countIn}
+use Rattle.snapshot.specs.Snapshots.{openCode, openOffset, cellsAt, decoded}
+use Rattle.snapshot.specs.Slices.{spare, inPlaceCode, scoreValue, stateValue, numbersIn, checkedIn, notOpened, openedIn}
 use Rattle.snapshot.specs.Facts.{Room}
 use Rattle.snapshot.specs.declared.Checked.{Checked}
-use Rattle.snapshot.proofs.Accepting.{accepted, accepted-room, one-snapshot}
+use Rattle.snapshot.proofs.Accepting.{accepted, accepted-size, accepted-room, one-snapshot}
 use Rattle.snapshot.proofs.Decoded.{cell-read, cell-none, accepted-passes, length-decoded}
 use Rattle.saving.specs.Encoding.{modelBytes, encoded}
-use Rattle.saving.specs.InPlace.{rejection, bytesAfter, numberAfter}
+use Rattle.saving.specs.InPlace.{roomCode, rewriteCode, rejection, bytesAfter, numberAfter}
 use Rattle.saving.specs.Facts.{aheadIn, Held, Found, advancedOn, seasonPut, stored}
-use Rattle.saving.proofs.Patches.{snapshotOf, level-written, season-written, position-written}
-use Rattle.saving.proofs.RoundTrip.{length-model, whole}
+use Rattle.saving.proofs.Patches.{snapshotOf, level-written, score-written, season-written, position-written}
+use Rattle.saving.proofs.RoundTrip.{length-model, length-encoded, whole}
 
 -- ---- the numbers of a slice that holds one snapshot are those of its state
 module _ (d : List ℕ) (ok : openCode d ≡ 0) where
@@ -66,12 +71,13 @@ unfolding decoded
 held d b z =
     let o = one-snapshot d z in
     record {
+      scored = refl;
       even = refl;
       period = refl;
       index = refl;
       numbers = numbers-are d (o .0);
       passes = accepted-passes d (o .0);
-      whole = whole d b (o .0) (o .1);
+      whole = whole d b z;
       room = accepted-room d (o .0);
     }
 
@@ -113,7 +119,7 @@ module _ (d : List ℕ) (ok : openCode d ≡ 0) (h : ℕ) where
       go false e = rw (eq-eqb (decoded d .period) 0 (no-season (decoded d) (accepted-passes d ok) e .period))
 
 -- ---- what is written
-encoded-is : (s : State) → encoded s ≡ snapshotOf (modelBytes (s .outside) (s .model) (s .period) (s .alpha) (s .beta) (s .gamma) (s .phi)) (s .level) (s .trend) (s .seasonal) (s .period) (s .index) (s .count)
+encoded-is : (s : State) → encoded s ≡ snapshotOf (modelBytes (s .outside) (s .model) (s .period) (s .alpha) (s .beta) (s .gamma) (s .phi)) (s .level) (s .trend) (s .score) (s .seasonal) (s .period) (s .index) (s .count)
 unfolding encoded
 encoded-is s = refl
 
@@ -124,36 +130,36 @@ module _ (s : State) (ok : check s ≡ 0) (full : length (s .seasonal) ≡ 48) w
   head-length : length head ≡ 19
   head-length = length-model (s .outside) (s .model) (s .period) (s .alpha) (s .beta) (s .gamma) (s .phi)
 
-  abbrev snapshot : List ℤ → List ℕ
-  snapshot cells = snapshotOf head (s .level) (s .trend) cells (s .period) (s .index) (s .count)
+  abbrev snapshot : Score → List ℤ → List ℕ
+  snapshot score cells = snapshotOf head (s .level) (s .trend) score cells (s .period) (s .index) (s .count)
 
-  season-put : (v : ℤ) → seasonPut (snapshot (s .seasonal)) (s .period) (s .index) v ≡ snapshot (cond (hasSeason (s .model)) (set (s .seasonal) (s .index) v) (s .seasonal))
+  season-put : (v : ℤ) → seasonPut (snapshot (s .score) (s .seasonal)) (s .period) (s .index) v ≡ snapshot (s .score) (cond (hasSeason (s .model)) (set (s .seasonal) (s .index) v) (s .seasonal))
   season-put v = go (hasSeason (s .model)) refl
     where
-      go : (t : Bool) → hasSeason (s .model) ≡ t → seasonPut (snapshot (s .seasonal)) (s .period) (s .index) v ≡ snapshot (cond t (set (s .seasonal) (s .index) v) (s .seasonal))
+      go : (t : Bool) → hasSeason (s .model) ≡ t → seasonPut (snapshot (s .score) (s .seasonal)) (s .period) (s .index) v ≡ snapshot (s .score) (cond t (set (s .seasonal) (s .index) v) (s .seasonal))
       go true h =
           let w = with-season s ok h in
-          rw (ne-eqb (s .period) 0 (λ z. omega arith)) (season-written head head-length (s .level) (s .trend) (s .seasonal) (s .period) (s .index) (s .count) (s .index) v (w .index) (omega (arith, bounded s ok .index)))
+          rw (ne-eqb (s .period) 0 (λ z. omega arith)) (season-written head head-length (s .level) (s .trend) (s .score) (s .seasonal) (s .period) (s .index) (s .count) (s .index) v (w .index) (omega (arith, bounded s ok .index)))
       go false h = rw (eq-eqb (s .period) 0 (no-season s ok h .period))
 
   seasons-are : (e : ℤ) → cond (hasSeason (s .model)) (set (s .seasonal) (s .index) (newSeason (termsOf s) e)) (s .seasonal) ≡ newSeasonal s e
   unfolding newSeasonal
   seasons-are e = refl
 
-  -- level, trend and position, whatever the season's cells
-  moved-on : (cells : List ℤ) (l b : ℤ) → advancedOn (snapshot cells) (s .period) (s .index) (s .count) l b
-      ≡ snapshotOf head l b cells (s .period) (nextIndex (s .period) (s .index)) (s .count + 1)
-  moved-on cells l b =
-      rw (level-written head head-length (s .level) (s .trend) cells (s .period) (s .index) (s .count) l b)
-      (position-written head head-length l b cells (s .period) (s .index) (s .count) (nextIndex (s .period) (s .index)) (s .count + 1))
+  -- level, trend and position, whatever the score and the season's cells
+  moved-on : (score : Score) (cells : List ℤ) (l b : ℤ) → advancedOn (snapshot score cells) (s .period) (s .index) (s .count) l b
+      ≡ snapshotOf head l b score cells (s .period) (nextIndex (s .period) (s .index)) (s .count + 1)
+  moved-on score cells l b =
+      rw (level-written head head-length (s .level) (s .trend) score cells (s .period) (s .index) (s .count) l b)
+      (position-written head head-length l b score cells (s .period) (s .index) (s .count) (nextIndex (s .period) (s .index)) (s .count + 1))
 
-  pub step-written : (e : ℤ) (u : Update) → u .level ≡ newLevel (termsOf s) e → u .trend ≡ newTrend (termsOf s) e → u .season ≡ newSeason (termsOf s) e → stored (encoded s) (s .period) (s .index) (s .count) u ≡ encoded (corrected s e)
-  step-written e u el eb es =
-      rw (el, eb, es, encoded-is s, encoded-is (corrected s e), season-put (newSeason (termsOf s) e), seasons-are e)
-      (moved-on (newSeasonal s e) (newLevel (termsOf s) e) (newTrend (termsOf s) e))
+  pub step-written : (e : ℤ) (u : Update) (score : Score) → u .level ≡ newLevel (termsOf s) e → u .trend ≡ newTrend (termsOf s) e → u .season ≡ newSeason (termsOf s) e → stored (encoded s) (s .period) (s .index) (s .count) u score ≡ encoded (corrected s e score)
+  step-written e u score el eb es =
+      rw (el, eb, es, encoded-is s, encoded-is (corrected s e score), season-put (newSeason (termsOf s) e), seasons-are e, score-written head head-length (s .level) (s .trend) (s .score) (newSeasonal s e) (s .period) (s .index) (s .count) score)
+      (moved-on score (newSeasonal s e) (newLevel (termsOf s) e) (newTrend (termsOf s) e))
 
   pub missing-written : advancedOn (encoded s) (s .period) (s .index) (s .count) (advanced (termsOf s)) (dampedTrend s) ≡ encoded (afterMissing s)
-  missing-written = rw (encoded-is s, encoded-is (afterMissing s)) (moved-on (s .seasonal) (advanced (termsOf s)) (dampedTrend s))
+  missing-written = rw (encoded-is s, encoded-is (afterMissing s)) (moved-on (s .score) (s .seasonal) (advanced (termsOf s)) (dampedTrend s))
 
 -- ---- the update on the numbers of a state that passes is the step
 pub record Direct (s : State) (y : ℤ) (u : Update) : Type 0 where
@@ -179,40 +185,102 @@ module _ (s : State) (ok : check s ≡ 0) (y : ℤ) where
         count = step-facts s y z .room;
       }
 
--- ---- so what a call stored, by the numbers that it goes by, is the snapshot of the next state
-module _ (d : List ℕ) (x : Checked) (h : Held d x) where
+-- ---- so what a call stored in the saved form, by the numbers that it goes by, is the snapshot of the next state
+module _ (d : List ℕ) (x : Checked) (h : Held d x) (e : List ℕ) (w : e ≡ encoded (decoded d)) where
   pub count-is : x .numbers .count ≡ decoded d .count
   count-is = ap (λ (n : Numbers). n .count) (h .numbers)
 
-  pub room-is : Room d (x .period) (x .index)
-  room-is = rw (h .period, h .index) (h .room)
+  pub room-is : Room true e (x .period) (x .index)
+  room-is =
+      let n : length e ≡ sizeOf (decoded d .period) = ap length w ∙ length-encoded (decoded d) in
+      rw (h .period, h .index) (record { size = omega arith; period = h .room .period; index = h .room .index })
 
-  pub step-stored : (y : ℤ) (u : Update) → u ≡ update (tiesToEven (decoded d .model)) (numbersOf (decoded d)) y → stepCode (decoded d) y ≡ 0 → stored d (x .period) (x .index) (x .numbers .count) u ≡ encoded (afterReading (decoded d) y)
-  step-stored y u e z =
+  pub step-stored : (y : ℤ) (u : Update) (score : Score) → u ≡ update (tiesToEven (decoded d .model)) (numbersOf (decoded d)) y → stepCode (decoded d) y ≡ 0 → score ≡ scoreAfter (decoded d .score) (squareAt (decoded d) y) → stored e (x .period) (x .index) (x .numbers .count) u score ≡ encoded (afterReading (decoded d) y)
+  step-stored y u score q z c =
       let s = decoded d in
       let k = direct s (h .passes) y z in
-      rw (h .period, h .index, count-is)
-      (ap (λ (l : List ℕ). stored l (s .period) (s .index) (s .count) u) (sym (h .whole))
-      ∙ step-written s (h .passes) (length-decoded d) (residualOf s y) u (ap (λ (v : Update). v .level) e ∙ k .level) (ap (λ (v : Update). v .trend) e ∙ k .trend) (ap (λ (v : Update). v .season) e ∙ k .season))
+      rw (h .period, h .index, count-is, w)
+      (step-written s (h .passes) (length-decoded d) (residualOf s y) u score (ap (λ (v : Update). v .level) q ∙ k .level) (ap (λ (v : Update). v .trend) q ∙ k .trend) (ap (λ (v : Update). v .season) q ∙ k .season)
+      ∙ ap (λ (n : Score). encoded (corrected s (residualOf s y) n)) c)
 
-  pub missing-stored : (u : Update) → u ≡ updateMissing (tiesToEven (decoded d .model)) (numbersOf (decoded d)) → missingCode (decoded d) ≡ 0 → advancedOn d (x .period) (x .index) (x .numbers .count) (u .level) (u .trend) ≡ encoded (afterMissing (decoded d))
+  pub missing-stored : (u : Update) → u ≡ updateMissing (tiesToEven (decoded d .model)) (numbersOf (decoded d)) → missingCode (decoded d) ≡ 0 → advancedOn e (x .period) (x .index) (x .numbers .count) (u .level) (u .trend) ≡ encoded (afterMissing (decoded d))
   unfolding advance
-  missing-stored u e z =
+  missing-stored u q z =
       let s = decoded d in
-      rw (h .period, h .index, count-is, e ∙ update-missing-is s (h .passes) z)
-      (ap (λ (l : List ℕ). advancedOn l (s .period) (s .index) (s .count) (advanced (termsOf s)) (dampedTrend s)) (sym (h .whole))
-      ∙ missing-written s (h .passes) (length-decoded d))
+      rw (h .period, h .index, count-is, q ∙ update-missing-is s (h .passes) z, w) (missing-written s (h .passes) (length-decoded d))
+
+-- ---- the state of the bytes of an accepted slice
+pub state-value : (d : List ℕ) → inPlaceCode d ≡ 0 → stateValue d ≡ decoded d
+unfolding stateValue
+state-value d z =
+    let r = accepted-room d (one-snapshot d z .0) in
+    rw (le-leb (periodIn d) 48 (r .period), le-leb (endAt (scoredIn d) (periodIn d)) (length d) (r .size))
+
+-- and the score of an accepted one
+pub score-value : (d : List ℕ) → inPlaceCode d ≡ 0 → scoreValue d ≡ decoded d .score
+unfolding scoreValue decoded
+score-value d z =
+    let a = accepted d (one-snapshot d z .0) in
+    go (scoredIn d) refl (leb (scoreAt + scoreLength) (length d)) refl
+  where
+    go : (t : Bool) → scoredIn d ≡ t → (u : Bool) → leb (scoreAt + scoreLength) (length d) ≡ u → cond u (scoreIn d) noScore ≡ scoreIn d
+    go t e true h = refl
+    go true e false h = absurd (false≢true (sym h ∙ le-leb (scoreAt + scoreLength) (length d) (accepted d (one-snapshot d z .0) .scored e)))
+    go false e false h = rw e
+
+-- ---- a slice with room for the saved form is as long as that
+pub rewrite-length : (d : List ℕ) → inPlaceCode d ≡ 0 → roomCode d ≡ 0 → length (encoded (decoded d)) ≡ length d
+unfolding decoded
+rewrite-length d z r =
+    let o = one-snapshot d z in
+    let n = accepted-size d (o .0) in
+    let p = leb-true (sizeOf (periodIn d)) (length d) (unless-zero (leb (sizeOf (periodIn d)) (length d)) 11 r) in
+    length-encoded (decoded d) ∙ go (scoredIn d) refl (n .0) (n .1) (o .1) p
+  where
+    go : (t : Bool) → scoredIn d ≡ t → openOffset d ≡ endAt (scoredIn d) (periodIn d) → openOffset d ≤ length d → length d - openOffset d ≤ spare (scoredIn d) → sizeOf (periodIn d) ≤ length d → sizeOf (decoded d .period) ≡ length d
+    go true e n l o p =
+        let n′ : openOffset d ≡ endAt true (periodIn d) = rw e at n in
+        let o′ : length d - openOffset d ≤ 0 = rw e at o in
+        omega arith
+    go false e n l o p =
+        let n′ : openOffset d ≡ endAt false (periodIn d) = rw e at n in
+        let o′ : length d - openOffset d ≤ 25 = rw e at o in
+        omega arith
 
 -- ---- a call by its rejection: that of the slice, that of the state, or none
 module _ (d : List ℕ) (x : Checked) (f : Found d x) where
   pub holds : x .code ≡ 0 → Held d x
   holds z = f .held (sym (f .code) ∙ z)
 
-  pub unopened : (code : State → ℕ) → (x .code ≡ 0 → ⊥) → x .code ≡ rejection code d
-  unopened code n = f .code ∙ sym (rw (ne-eqb (inPlaceCode d) 0 (λ z. n (f .code ∙ z))))
+  -- a call that reads alone
+  pub not-read : (code : ℕ) → (x .code ≡ 0 → ⊥) → x .code ≡ (inPlaceCode d then code)
+  not-read code n = f .code ∙ sym (then-first (inPlaceCode d) code (λ z. n (f .code ∙ z)))
 
-  pub opened : (code : State → ℕ) → x .code ≡ 0 → (n : ℕ) → n ≡ code (decoded d) → n ≡ rejection code d
-  opened code z n e = rw (sym (f .code) ∙ z) e
+  pub is-read : (code : ℕ) → x .code ≡ 0 → (n : ℕ) → n ≡ code → n ≡ (inPlaceCode d then code)
+  is-read code z n e = rw (sym (f .code) ∙ z) e
+
+  pub room-in : x .code ≡ 0 → Room (scoredIn d) d (x .period) (x .index)
+  room-in z = let h = holds z in rw (h .period, h .index) (h .room)
+
+  -- the rejection of a slice that is to be rewritten
+  pub rewrite-is : (n : ℕ) → n ≡ (x .code then unless (leb (sizeOf (x .period)) (length d)) short-buffer) → n ≡ rewriteCode d
+  unfolding decoded
+  rewrite-is n e = e ∙ go (eqb (x .code) 0) refl
+    where
+      go : (t : Bool) → eqb (x .code) 0 ≡ t → (x .code then unless (leb (sizeOf (x .period)) (length d)) short-buffer) ≡ rewriteCode d
+      go true z = rw (holds (eqb-true (x .code) 0 z) .period, f .code)
+      go false z = rw z (f .code ∙ sym (then-first (inPlaceCode d) (roomCode d) (λ y. eqb-false (x .code) 0 z (f .code ∙ y))))
+
+module _ (d : List ℕ) (n : ℕ) (e : n ≡ rewriteCode d) where
+  pub unopened : (code : State → ℕ) → (n ≡ 0 → ⊥) → n ≡ rejection code d
+  unopened code h = e ∙ sym (then-first (rewriteCode d) (code (decoded d)) (λ z. h (e ∙ z)))
+
+  pub opened : (code : State → ℕ) → n ≡ 0 → (k : ℕ) → k ≡ code (decoded d) → k ≡ rejection code d
+  opened code z k q = rw (sym e ∙ z) q
+
+  -- what the slice has that is to be rewritten
+  pub rewrite-facts : n ≡ 0 → (inPlaceCode d ≡ 0) × (roomCode d ≡ 0)
+  rewrite-facts z = then-zero (inPlaceCode d) (roomCode d) (sym e ∙ z)
 
 module _ (code : State → ℕ) (next : State → State) (value : State → ℤ) (d : List ℕ) (old : ℤ) where
   pub rejected : (n : ℕ) → n ≡ rejection code d → (n ≡ 0 → ⊥) → (d ≡ bytesAfter code next d) × (old ≡ numberAfter code value d old)

@@ -7,6 +7,7 @@ use lib.ListN.{getD}
 use mir.Syntax.{w64}
 use mir.Val.{ofZ}
 use Rattle.models.specs.Models.{modelByte}
+use Rattle.state.specs.declared.Score.{Score}
 use Rattle.state.specs.declared.State.{State}
 use Rattle.layout.specs.CommandTable.{opener}
 
@@ -29,6 +30,9 @@ modelBytes outside model m A B G F = opener outside ∷ modelByte model ∷ m �
 unfoldable pub levelBytes : ℤ → ℤ → List ℕ
 levelBytes l b = 0x11 ∷ (signedBytes l ++ signedBytes b)
 
+unfoldable pub scoreBytes : Score → List ℕ
+scoreBytes s = 0x15 ∷ (toBytes 8 (s .readings) ++ (toBytes 8 (s .high) ++ toBytes 8 (s .low)))
+
 unfoldable pub seasonBytes : ℕ → ℤ → List ℕ
 seasonBytes k v = 0x12 ∷ k ∷ signedBytes v
 
@@ -45,5 +49,6 @@ unfoldable pub encoded : State → List ℕ
 encoded s =
     modelBytes (s .outside) (s .model) (s .period) (s .alpha) (s .beta) (s .gamma) (s .phi)
     ++ (levelBytes (s .level) (s .trend)
+    ++ (scoreBytes (s .score)
     ++ (seasonsBytes (s .seasonal) (s .period)
-    ++ positionBytes (s .index) (s .count)))
+    ++ positionBytes (s .index) (s .count))))

@@ -1,29 +1,63 @@
 // The calls on a lent slice that holds one snapshot: document 01, "Commands".
 // Each returns the rejection's number or 0; a rejected call leaves the slice and the lent number as found.
 // The snapshot is checked once. A step reads the numbers that it needs and writes those that it moves: no state is copied.
+// An old snapshot, without command 15, is first written as a new one, once.
 use super::writing::write_level;
 use super::writing::write_position;
+use super::writing::write_score;
 use super::writing::write_season;
+use super::writing::write_snapshot;
 use ets::Update;
 use ets::next_index;
 use ets::updates::update;
 use ets::updates::update_missing;
+use ets::updates::update_score;
 use forecasts::forecast_from;
 use layout::MODEL_BYTE_AT;
+use layout::size_of;
 use models::to_even;
 use snapshot::slices::opened;
+use snapshot::slices::score_value;
 use snapshot::slices::season_value;
+use snapshot::slices::state_value;
 use state::Answer;
+use state::SHORT_BUFFER;
+use state::Score;
+use state::first;
+use state::unless;
 ghost use mathlib.Core.Path.{_≡_};
+ghost use mathlib.Core.Bool.{true};
+ghost use lib.Dec.{leb};
 ghost use Prim.Native.Nat.{_+_, _<_};
 ghost use Rattle.state.specs.Fixed.{maxCount};
+ghost use Rattle.state.specs.Rejections.{unless, _then_, short-buffer};
+ghost use Rattle.layout.specs.Layout.{sizeOf, scoredIn};
+ghost use Rattle.snapshot.specs.Snapshots.{decoded};
 ghost use Rattle.snapshot.specs.Facts.{Room};
-ghost use Rattle.saving.specs.InPlace.{inPlaceStepCode, inPlaceStepBytes, inPlaceResidual, inPlaceMissingCode, inPlaceMissingBytes, inPlaceSwitchCode, inPlaceSwitchBytes, inPlaceForecastCode, inPlaceForecast};
+ghost use Rattle.saving.specs.Encoding.{encoded};
+ghost use Rattle.saving.specs.InPlace.{rewriteCode, inPlaceStepCode, inPlaceStepBytes, inPlaceResidual, inPlaceMissingCode, inPlaceMissingBytes, inPlaceSwitchCode, inPlaceSwitchBytes, inPlaceForecastCode, inPlaceForecast};
 ghost use Rattle.saving.specs.Facts.{aheadIn, movedOn, advancedOn, seasonPut, stored};
+
+// The rejection of a slice that is to be rewritten: its own, then 12 where there is no room for the form that is saved.
+fn rewrite_code(code: u8, m: u8, length: usize) -> u8
+    ensures { λ r. ⌜ r ≡ (code then unless (leb (sizeOf m) length) short-buffer) ⌝ }
+{
+    first(code, unless(size_of(m) <= length, SHORT_BUFFER))
+}
+
+// The slice holds the snapshot as it is saved: an old one gets its command 15.
+fn upgrade(d: &mut [u8], scored: bool)
+    requires { ⌜ (rewriteCode (now d) ≡ 0) × (scored ≡ scoredIn (now d)) ⌝ }
+    ensures { λ _. ⌜ now (d .exit) ≡ encoded (decoded (now (d .entry))) ⌝ }
+{
+    if !scored {
+        write_snapshot(d, state_value(d));
+    }
+}
 
 // The seasonal index moves on and the count rises.
 fn move_on(d: &mut [u8], m: u8, p: u8, count: u64)
-    requires { ⌜ Room (now d) m p × (count < maxCount) ⌝ }
+    requires { ⌜ Room true (now d) m p × (count < maxCount) ⌝ }
     ensures { λ _. ⌜ now (d .exit) ≡ movedOn (now (d .entry)) m p count ⌝ }
 {
     write_position(d, m, next_index(m, p), count + 1);
@@ -31,7 +65,7 @@ fn move_on(d: &mut [u8], m: u8, p: u8, count: u64)
 
 // The level and the trend, and the position moves on: all that a missing reading writes.
 fn advance(d: &mut [u8], m: u8, p: u8, count: u64, level: i64, trend: i64)
-    requires { ⌜ Room (now d) m p × (count < maxCount) ⌝ }
+    requires { ⌜ Room true (now d) m p × (count < maxCount) ⌝ }
     ensures { λ _. ⌜ now (d .exit) ≡ advancedOn (now (d .entry)) m p count level trend ⌝ }
 {
     write_level(d, level, trend);
@@ -40,7 +74,7 @@ fn advance(d: &mut [u8], m: u8, p: u8, count: u64, level: i64, trend: i64)
 
 // The season value, in its place where there is one.
 fn put_season(d: &mut [u8], m: u8, p: u8, v: i64)
-    requires { ⌜ Room (now d) m p ⌝ }
+    requires { ⌜ Room true (now d) m p ⌝ }
     ensures { λ _. ⌜ now (d .exit) ≡ seasonPut (now (d .entry)) m p v ⌝ }
 {
     if m != 0 {
@@ -49,11 +83,12 @@ fn put_season(d: &mut [u8], m: u8, p: u8, v: i64)
 }
 
 // The numbers that a step moved, in their places.
-fn store(d: &mut [u8], m: u8, p: u8, count: u64, u: Update)
-    requires { ⌜ Room (now d) m p × (count < maxCount) ⌝ }
-    ensures { λ _. ⌜ now (d .exit) ≡ stored (now (d .entry)) m p count u ⌝ }
+fn store(d: &mut [u8], m: u8, p: u8, count: u64, u: Update, score: Score)
+    requires { ⌜ Room true (now d) m p × (count < maxCount) ⌝ }
+    ensures { λ _. ⌜ now (d .exit) ≡ stored (now (d .entry)) m p count u score ⌝ }
 {
     put_season(d, m, p, u.season);
+    write_score(d, score);
     advance(d, m, p, count, u.level, u.trend);
 }
 
@@ -64,7 +99,7 @@ pub fn step(snapshot: &mut [u8], reading: i32, residual: &mut i64) -> u8
     ensures number { λ _. ⌜ now (residual .exit) ≡ inPlaceResidual (now (snapshot .entry)) reading (now (residual .entry)) ⌝ }
 {
     let x = opened(snapshot);
-    let code = x.code;
+    let code = rewrite_code(x.code, x.period, snapshot.len());
     if code != 0 {
         return code;
     }
@@ -76,7 +111,9 @@ pub fn step(snapshot: &mut [u8], reading: i32, residual: &mut i64) -> u8
     }
     let e = u.residual;
     *residual = e;
-    store(snapshot, x.period, x.index, n.count, u);
+    let score = update_score(x.even, n.count, score_value(snapshot), e);
+    upgrade(snapshot, x.scored);
+    store(snapshot, x.period, x.index, n.count, u, score);
     0
 }
 
@@ -86,7 +123,7 @@ pub fn missing(snapshot: &mut [u8]) -> u8
     ensures bytes { λ _. ⌜ now (snapshot .exit) ≡ inPlaceMissingBytes (now (snapshot .entry)) ⌝ }
 {
     let x = opened(snapshot);
-    let code = x.code;
+    let code = rewrite_code(x.code, x.period, snapshot.len());
     if code != 0 {
         return code;
     }
@@ -96,27 +133,29 @@ pub fn missing(snapshot: &mut [u8]) -> u8
     if rejection != 0 {
         return rejection;
     }
+    upgrade(snapshot, x.scored);
     advance(snapshot, x.period, x.index, n.count, u.level, u.trend);
     0
 }
 
-// A switch to ties to even: an accepted one sets bit 6 of the model byte, and no other byte changes.
+// A switch to ties to even: an accepted one sets bit 6 of the model byte, and of a snapshot with command 15 no other byte changes.
 pub fn switch_to_even(snapshot: &mut [u8]) -> u8
     ensures code { λ r. ⌜ r ≡ inPlaceSwitchCode (now (snapshot .entry)) ⌝ }
     ensures bytes { λ _. ⌜ now (snapshot .exit) ≡ inPlaceSwitchBytes (now (snapshot .entry)) ⌝ }
 {
     let x = opened(snapshot);
-    let code = x.code;
+    let code = rewrite_code(x.code, x.period, snapshot.len());
     if code != 0 {
         return code;
     }
+    upgrade(snapshot, x.scored);
     snapshot[MODEL_BYTE_AT] = to_even(snapshot[MODEL_BYTE_AT]);
     0
 }
 
 // The season value of a horizon, 0 without season.
 fn season_ahead(s: &[u8], m: u8, p: u8, h: u32) -> i64
-    requires { ⌜ Room (now s) m p ⌝ }
+    requires { ⌜ Room (scoredIn (now s)) (now s) m p ⌝ }
     ensures { λ r. ⌜ r ≡ aheadIn (now (s .entry)) m p h ⌝ }
 {
     if (m == 0) | (h == 0) {

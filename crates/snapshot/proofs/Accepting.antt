@@ -1,24 +1,25 @@
 -- What an accepted snapshot has, command for command, and that what has it is accepted.
 use Prim.Native.Nat.{ℕ, zero, suc, _+_, _-_, _≤_, _<_}
 use mathlib.Core.Path.{_≡_, refl, ap}
-use mathlib.Core.Bool.{Bool, true, false, _&&_}
+use mathlib.Core.Bool.{Bool, true, false, cond, _&&_}
 use mathlib.Core.List.{List}
 use native.Mathlib.Decide.{decLe}
 use native.Mathlib.Omega.{arith}
 use borrow.Author.Tests.{ltb-true, leb-true, eqb-true, lt-ltb, le-leb, eq-eqb}
-use lib.Dec.{eqb, ltb, eqb·suc-zero}
+use lib.Dec.{eqb, ltb, leb, eqb·suc-zero}
 use lib.ListN.{length, getD}
 use Rattle.state.specs.Rejections.{unless, unknown-command, out-of-place, truncated}
 use Rattle.state.specs.Fixed.{inRange}
 use Rattle.models.specs.Models.{hasSeason, validModel, periodOk}
+use Rattle.state.specs.Scores.{scoreOk}
 use Rattle.state.specs.States.{parametersCode, trendOk, indexOk, countOk}
 use Rattle.state.proofs.Passing.{period-le}
 use Rattle.integers.proofs.Tests.{both}
 use Rattle.state.proofs.Tests.{unless-zero, then-zero}
-use Rattle.layout.specs.CommandTable.{commandSize, isCommand, opener, modelLength, levelLength, seasonLength, positionLength}
-use Rattle.layout.specs.Layout.{modelAt, levelAt, seasonAt, positionAt, sizeOf, outsideIn, modelIn, periodIn, alphaIn, betaIn, gammaIn, phiIn, levelIn, trendIn, seasonIndexIn, seasonIn, indexIn, countIn}
-use Rattle.snapshot.specs.Snapshots.{dueCode, modelCode, levelCode, seasonCode, positionCode, finished, scanPosition, scanSeasons, scan, openCode, openOffset}
-use Rattle.snapshot.specs.Slices.{inPlaceCode}
+use Rattle.layout.specs.CommandTable.{commandSize, isCommand, opener, modelLength, levelLength, scoreLength, seasonLength, positionLength}
+use Rattle.layout.specs.Layout.{modelAt, levelAt, scoreAt, seasonAt, positionAt, endAt, outsideIn, scoredIn, modelIn, periodIn, alphaIn, betaIn, gammaIn, phiIn, levelIn, trendIn, scoreIn, seasonIndexIn, seasonIn, indexIn, countIn}
+use Rattle.snapshot.specs.Snapshots.{dueCode, modelCode, levelCode, scoreCode, seasonCode, positionCode, finished, scanPosition, scanSeasons, scan, openCode, openOffset}
+use Rattle.snapshot.specs.Slices.{spare, inPlaceCode}
 use Rattle.snapshot.specs.Facts.{Room}
 use Rattle.snapshot.specs.declared.reading.Scanned.{Scanned}
 
@@ -97,9 +98,22 @@ is-level : {s : List ℕ} → Level s → levelCode s ≡ 0
 unfolding levelCode isCommand commandSize
 is-level c = rw (is-due refl (omega arith) (c .due), c .values)
 
+-- ---- the command 15, where there is one
+pub score : (s : List ℕ) → scoreCode s ≡ 0 → scoredIn s ≡ true → scoreAt + scoreLength ≤ length s
+unfolding scoreCode commandSize
+score s h e = due s scoreAt 0x15 (rw e at h) .room
+
+is-score : (s : List ℕ) → (scoredIn s ≡ true → scoreAt + scoreLength ≤ length s) → scoreCode s ≡ 0
+unfolding scoreCode isCommand commandSize
+is-score s room = go (scoredIn s) refl
+  where
+    go : (t : Bool) → scoredIn s ≡ t → cond t (dueCode s scoreAt 0x15) 0 ≡ 0
+    go true e = is-due refl (omega arith) (record { byte = eqb-true (getD s scoreAt 0) 0x15 e; room = room e })
+    go false e = refl
+
 -- ---- the command 12 of index k
 pub record Season (s : List ℕ) (k : ℕ) : Type 0 where
-  pub due : Due s (seasonAt k) 0x12 seasonLength
+  pub due : Due s (seasonAt (scoredIn s) k) 0x12 seasonLength
   pub index : seasonIndexIn s k ≡ k
   pub value : inRange (seasonIn s k) ≡ true
 
@@ -108,7 +122,7 @@ unfolding seasonCode commandSize
 season s k h =
     let c = then-zero _ _ h in
     let d = then-zero _ _ (c .1) in
-    record { due = due s (seasonAt k) 0x12 (c .0); index = eqb-true (seasonIndexIn s k) k (unless-zero _ 7 (d .0)); value = unless-zero _ 8 (d .1) }
+    record { due = due s (seasonAt (scoredIn s) k) 0x12 (c .0); index = eqb-true (seasonIndexIn s k) k (unless-zero _ 7 (d .0)); value = unless-zero _ 8 (d .1) }
 
 is-season : {s : List ℕ} {k : ℕ} → Season s k → seasonCode s k ≡ 0
 unfolding seasonCode isCommand commandSize
@@ -116,18 +130,20 @@ is-season {s} {k} c = rw (is-due refl (omega arith) (c .due), c .index, eq-eqb k
 
 -- ---- the command 13, after m places
 pub record Position (s : List ℕ) (m : ℕ) : Type 0 where
-  pub due : Due s (positionAt m) 0x13 positionLength
+  pub due : Due s (positionAt (scoredIn s) m) 0x13 positionLength
   pub ok : (indexOk m (indexIn s m) && countOk (countIn s m)) ≡ true
+  pub score : scoreOk (countIn s m) (scoreIn s) ≡ true
 
 pub position : (s : List ℕ) (m : ℕ) → positionCode s m ≡ 0 → Position s m
 unfolding positionCode commandSize
 position s m h =
     let c = then-zero _ _ h in
-    record { due = due s (positionAt m) 0x13 (c .0); ok = unless-zero _ 9 (c .1) }
+    let d = then-zero _ _ (c .1) in
+    record { due = due s (positionAt (scoredIn s) m) 0x13 (c .0); ok = unless-zero _ 9 (d .0); score = unless-zero _ 16 (d .1) }
 
 is-position : {s : List ℕ} {m : ℕ} → Position s m → positionCode s m ≡ 0
 unfolding positionCode isCommand commandSize
-is-position c = rw (is-due refl (omega arith) (c .due), c .ok)
+is-position c = rw (is-due refl (omega arith) (c .due), c .ok, c .score)
 
 -- ---- one command after the other: nothing is rejected where no command is
 finished-zero : (at code : ℕ) (r : Scanned) → finished at code r .code ≡ 0 → (code ≡ 0) × (r .code ≡ 0)
@@ -138,7 +154,7 @@ seasons : (s : List ℕ) (k n : ℕ) (r : Scanned) → scanSeasons s k n r .code
 unfolding scanSeasons
 seasons s k zero r h = (λ j l u. absurd (omega arith), h)
 seasons s k (suc n) r h =
-    let f = finished-zero (seasonAt k) (seasonCode s k) (scanSeasons s (suc k) n r) h in
+    let f = finished-zero (seasonAt (scoredIn s) k) (seasonCode s k) (scanSeasons s (suc k) n r) h in
     let g = seasons s (suc k) n r (f .1) in
     (λ j l u. first j (f .0) (g .0) l u (decLe (suc k) j), g .1)
   where
@@ -156,6 +172,7 @@ are-seasons s k (suc n) r c =
 pub record Accepted (s : List ℕ) : Type 0 where
   pub model : Model s
   pub level : Level s
+  pub scored : scoredIn s ≡ true → scoreAt + scoreLength ≤ length s
   pub seasons : (k : ℕ) → k < periodIn s → Season s k
   pub position : Position s (periodIn s)
 
@@ -164,18 +181,19 @@ unfolding scan
 accepted s h =
     let m = finished-zero _ _ _ h in
     let l = finished-zero _ _ _ (m .1) in
-    let x = seasons s 0 (periodIn s) _ (l .1) in
+    let c = finished-zero _ _ _ (l .1) in
+    let x = seasons s 0 (periodIn s) _ (c .1) in
     let p = finished-zero _ _ _ (x .1) in
-    record { model = model s (m .0); level = level s (l .0); seasons = λ k u. x .0 k (omega arith) (omega arith); position = position s (periodIn s) (p .0) }
+    record { model = model s (m .0); level = level s (l .0); scored = score s (c .0); seasons = λ k u. x .0 k (omega arith) (omega arith); position = position s (periodIn s) (p .0) }
 
 -- the code and the offset of an accepted snapshot
-pub accepts : {s : List ℕ} → Accepted s → scan s ≡ record { code = 0; offset = sizeOf (periodIn s) }
+pub accepts : {s : List ℕ} → Accepted s → scan s ≡ record { code = 0; offset = endAt (scoredIn s) (periodIn s) }
 unfolding scan
 accepts {s} a =
-    rw (is-model (a .model), is-level (a .level), are-seasons s 0 (periodIn s) (scanPosition s (periodIn s)) (λ k l u. a .seasons k (omega arith)), is-position (a .position))
+    rw (is-model (a .model), is-level (a .level), is-score s (a .scored), are-seasons s 0 (periodIn s) (scanPosition s (periodIn s)) (λ k l u. a .seasons k (omega arith)), is-position (a .position))
 
 -- it lies in the stream, and its index is one of its places
-pub accepted-size : (s : List ℕ) → openCode s ≡ 0 → (openOffset s ≡ sizeOf (periodIn s)) × (openOffset s ≤ length s)
+pub accepted-size : (s : List ℕ) → openCode s ≡ 0 → (openOffset s ≡ endAt (scoredIn s) (periodIn s)) × (openOffset s ≤ length s)
 accepted-size s h =
     let a = accepted s h in
     let e = ap (λ (r : Scanned). r .offset) (accepts a) in
@@ -185,7 +203,11 @@ index-most : (m p : ℕ) → indexOk m p ≡ true → p ≤ m
 index-most zero p h = omega (arith, eqb-true p 0 h)
 index-most (suc m) p h = omega (arith, ltb-true p (suc m) (rw (eqb·suc-zero m) at h))
 
-pub accepted-room : (s : List ℕ) → openCode s ≡ 0 → Room s (periodIn s) (indexIn s (periodIn s))
+-- the command 15 lies in it too
+pub room-score : (s : List ℕ) (t : Bool) (m : ℕ) → endAt t m ≤ length s → t ≡ true → scoreAt + scoreLength ≤ length s
+room-score s t m r e = let z : endAt true m ≤ length s = rw e at r in omega arith
+
+pub accepted-room : (s : List ℕ) → openCode s ≡ 0 → Room (scoredIn s) s (periodIn s) (indexIn s (periodIn s))
 accepted-room s h =
     let a = accepted s h in
     record {
@@ -194,9 +216,17 @@ accepted-room s h =
       index = index-most (periodIn s) (indexIn s (periodIn s)) (both (indexOk (periodIn s) (indexIn s (periodIn s))) (countOk (countIn s (periodIn s))) (a .position .ok) .0);
     }
 
--- ---- the slice holds one snapshot and nothing after it
-pub one-snapshot : (d : List ℕ) → inPlaceCode d ≡ 0 → (openCode d ≡ 0) × (openOffset d ≡ length d)
+-- ---- the slice holds one snapshot, and after it no more than may be there
+pub one-snapshot : (d : List ℕ) → inPlaceCode d ≡ 0 → (openCode d ≡ 0) × (length d - openOffset d ≤ spare (scoredIn d))
 unfolding inPlaceCode
 one-snapshot d h =
-    let c = then-zero (openCode d) (unless (eqb (openOffset d) (length d)) out-of-place) h in
-    (c .0, eqb-true (openOffset d) (length d) (unless-zero (eqb (openOffset d) (length d)) 2 (c .1)))
+    let t = leb (length d - openOffset d) (spare (scoredIn d)) in
+    let c = then-zero (openCode d) (unless t out-of-place) h in
+    (c .0, leb-true (length d - openOffset d) (spare (scoredIn d)) (unless-zero t 2 (c .1)))
+
+-- nothing at all after one with command 15
+pub nothing-after : (d : List ℕ) → inPlaceCode d ≡ 0 → scoredIn d ≡ true → openOffset d ≡ length d
+nothing-after d h e =
+    let o = one-snapshot d h in
+    let l : length d - openOffset d ≤ 0 = rw e at (o .1) in
+    omega (arith, accepted-size d (o .0) .1)

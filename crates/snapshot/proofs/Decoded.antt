@@ -67,6 +67,7 @@ accepted-passes s h =
       seasonal = allBelow-all 48 (λ (k : ℕ). cellOk (periodIn s) k (getD (cellsAt s (periodIn s)) k (pos 0))) (cell-passes s a);
       index = i .0;
       count = i .1;
+      score = a .position .score;
     })
 
 pub length-decoded : (s : List ℕ) → length (decoded s .seasonal) ≡ 48

@@ -1,24 +1,31 @@
--- Document 01, "Commands": a lent slice that holds one snapshot (the paper's group) and nothing after it.
-use Prim.Native.Nat.{ℕ, _+_}
-use mathlib.Core.Bool.{false, cond}
+-- Document 01, "Commands": a lent slice that holds one snapshot (the paper's group) and nothing after it, but for the room that an old one leaves (document 02, W-204).
+use Prim.Native.Nat.{ℕ, _+_, _-_}
+use mathlib.Core.Bool.{Bool, false, cond, _&&_}
 use mathlib.Core.List.{List}
 use lib.Dec.{eqb, leb}
 use lib.IntN.{pos}
 use lib.ListN.{length}
 use Rattle.state.specs.Rejections.{unless, _then_, out-of-place, truncated, accepting, outcome, answer}
 use Rattle.models.specs.Models.{tiesToEven}
+use Rattle.state.specs.Scores.{noScore}
 use Rattle.state.specs.States.{noState}
 use Rattle.state.specs.declared.Answer.{Answer}
+use Rattle.state.specs.declared.Score.{Score}
+use Rattle.state.specs.declared.State.{State}
 use Rattle.ets.specs.declared.Numbers.{Numbers}
-use Rattle.layout.specs.CommandTable.{seasonLength}
-use Rattle.layout.specs.Layout.{seasonAt, modelIn, periodIn, alphaIn, betaIn, gammaIn, phiIn, levelIn, trendIn, seasonIn, indexIn, countIn}
+use Rattle.layout.specs.CommandTable.{scoreLength, seasonLength}
+use Rattle.layout.specs.Layout.{scoreAt, seasonAt, endAt, scoredIn, modelIn, periodIn, alphaIn, betaIn, gammaIn, phiIn, levelIn, trendIn, scoreIn, seasonIn, indexIn, countIn}
 use Rattle.snapshot.specs.Snapshots.{openCode, openOffset, decoded}
 use Rattle.snapshot.specs.declared.Checked.{Checked}
 use Rattle.snapshot.specs.declared.Opened.{Opened}
 
--- the snapshot's own rejections; then any byte after it, a command or not, is 3
+-- the bytes after a snapshot that are not looked at: none, or up to 25 after an old one, so that the new one fits
+abbrev pub spare : Bool → ℕ
+spare scored = cond scored 0 scoreLength
+
+-- the snapshot's own rejections; then more bytes after it than that, commands or not, are 3
 unfoldable pub inPlaceCode : List ℕ → ℕ
-inPlaceCode d = openCode d then unless (eqb (openOffset d) (length d)) out-of-place
+inPlaceCode d = openCode d then unless (leb (length d - openOffset d) (spare (scoredIn d))) out-of-place
 
 -- the call: the state that the slice holds
 unfoldable pub inPlaceRead : List ℕ → Opened
@@ -39,13 +46,15 @@ numbersIn s =
     }
 
 abbrev pub checkedIn : List ℕ → Checked
-checkedIn s = record { code = 0; even = tiesToEven (modelIn s); period = periodIn s; index = indexIn s (periodIn s); numbers = numbersIn s }
+checkedIn s =
+    record { code = 0; scored = scoredIn s; even = tiesToEven (modelIn s); period = periodIn s; index = indexIn s (periodIn s); numbers = numbersIn s }
 
 -- what stands beside a rejection
 abbrev pub notOpened : ℕ → Checked
 notOpened code =
     record {
       code = code;
+      scored = false;
       even = false;
       period = 0;
       index = 0;
@@ -58,4 +67,12 @@ openedIn d = accepting (inPlaceCode d) (checkedIn d) notOpened
 
 -- the call: the season value of index k; 4 where the slice ends before or inside its command
 unfoldable pub seasonValue : List ℕ → ℕ → Answer
-seasonValue d k = answer (unless (leb (seasonAt k + seasonLength) (length d)) truncated) (seasonIn d k)
+seasonValue d k = answer (unless (leb (seasonAt (scoredIn d) k + seasonLength) (length d)) truncated) (seasonIn d k)
+
+-- the call: the score, all 0 where there is no command 15 or the slice ends inside it
+unfoldable pub scoreValue : List ℕ → Score
+scoreValue d = cond (leb (scoreAt + scoreLength) (length d)) (scoreIn d) noScore
+
+-- the call: the state of the bytes as they stand, where they reach to the end of a snapshot; no check is made of its numbers
+unfoldable pub stateValue : List ℕ → State
+stateValue d = cond (leb (periodIn d) 48 && leb (endAt (scoredIn d) (periodIn d)) (length d)) (decoded d) noState

@@ -1,17 +1,18 @@
--- Document 01, "Commands" and the refusals 2 to 10 and 16 of a snapshot (the paper's group): reading one.
+-- Document 01, "Commands", document 02, W-204, and the refusals 2 to 10, 16 and 17 of a snapshot (the paper's group): reading one.
 use Prim.Native.Nat.{ℕ, zero, suc, _-_}
-use mathlib.Core.Bool.{_&&_}
+use mathlib.Core.Bool.{cond, _&&_}
 use mathlib.Core.List.{List}
 use lib.Dec.{eqb, ltb, leb}
 use lib.IntN.{ℤ, pos}
 use lib.ListN.{length, drop, getD, set, replicate}
-use Rattle.state.specs.Rejections.{unless, _then_, outcome, unknown-command, out-of-place, truncated, bad-model, bad-period, wrong-index, bad-value, bad-position, accepting}
+use Rattle.state.specs.Rejections.{unless, _then_, outcome, unknown-command, out-of-place, truncated, bad-model, bad-period, wrong-index, bad-value, bad-position, bad-score, accepting}
 use Rattle.state.specs.Fixed.{inRange}
 use Rattle.models.specs.Models.{validModel, periodOk}
+use Rattle.state.specs.Scores.{scoreOk}
 use Rattle.state.specs.States.{parametersCode, trendOk, indexOk, countOk, noState}
 use Rattle.state.specs.declared.State.{State}
 use Rattle.layout.specs.CommandTable.{commandSize, isCommand, opener}
-use Rattle.layout.specs.Layout.{modelAt, levelAt, seasonAt, positionAt, sizeOf, outsideIn, modelIn, periodIn, alphaIn, betaIn, gammaIn, phiIn, levelIn, trendIn, seasonIndexIn, seasonIn, indexIn, countIn}
+use Rattle.layout.specs.Layout.{modelAt, levelAt, scoreAt, seasonAt, positionAt, endAt, outsideIn, scoredIn, modelIn, periodIn, alphaIn, betaIn, gammaIn, phiIn, levelIn, trendIn, scoreIn, seasonIndexIn, seasonIn, indexIn, countIn}
 use Rattle.snapshot.specs.declared.Opened.{Opened}
 use Rattle.snapshot.specs.declared.reading.Scanned.{Scanned}
 
@@ -37,37 +38,44 @@ levelCode s =
     dueCode s levelAt 0x11
     then unless (inRange (levelIn s) && trendOk (modelIn s) (trendIn s)) bad-value
 
+-- after 11 two commands are due: 15, whose operands are tested with 13, or what an old snapshot has next
+unfoldable pub scoreCode : List ℕ → ℕ
+scoreCode s = cond (scoredIn s) (dueCode s scoreAt 0x15) 0
+
 -- 12 of index k
 unfoldable pub seasonCode : List ℕ → ℕ → ℕ
 seasonCode s k =
-    dueCode s (seasonAt k) 0x12
+    dueCode s (seasonAt (scoredIn s) k) 0x12
     then unless (eqb (seasonIndexIn s k) k) wrong-index
     then unless (inRange (seasonIn s k)) bad-value
 
--- 13, after m places
+-- 13, after m places: its own operands, then the score
 unfoldable pub positionCode : List ℕ → ℕ → ℕ
 positionCode s m =
-    dueCode s (positionAt m) 0x13
+    dueCode s (positionAt (scoredIn s) m) 0x13
     then unless (indexOk m (indexIn s m) && countOk (countIn s m)) bad-position
+    then unless (scoreOk (countIn s m) (scoreIn s)) bad-score
 
 -- a command at an offset, by its rejection: what follows it is looked at where it is accepted
 abbrev pub finished : ℕ → ℕ → Scanned → Scanned
 finished at code rest = accepting code rest (λ (n : ℕ). record { code = n; offset = at })
 
 abbrev pub scanPosition : List ℕ → ℕ → Scanned
-scanPosition s m = finished (positionAt m) (positionCode s m) (record { code = 0; offset = sizeOf m })
+scanPosition s m =
+    finished (positionAt (scoredIn s) m) (positionCode s m) (record { code = 0; offset = endAt (scoredIn s) m })
 
 -- 12 for n places from k on, rising, and then rest
 unfoldable pub scanSeasons : List ℕ → ℕ → ℕ → Scanned → Scanned
 scanSeasons s k zero rest = rest
-scanSeasons s k (suc n) rest = finished (seasonAt k) (seasonCode s k) (scanSeasons s (suc k) n rest)
+scanSeasons s k (suc n) rest = finished (seasonAt (scoredIn s) k) (seasonCode s k) (scanSeasons s (suc k) n rest)
 
 -- each command is finished before the next is looked at: the rejection and the offset of its command's first byte, or 0 and the bytes that the snapshot has
 unfoldable pub scan : List ℕ → Scanned
 scan s =
     finished modelAt (modelCode s)
     (finished levelAt (levelCode s)
-    (scanSeasons s 0 (periodIn s) (scanPosition s (periodIn s))))
+    (finished scoreAt (scoreCode s)
+    (scanSeasons s 0 (periodIn s) (scanPosition s (periodIn s)))))
 
 abbrev pub openCode : List ℕ → ℕ
 openCode s = scan s .code
@@ -96,6 +104,7 @@ decoded s =
       seasonal = cellsAt s (periodIn s);
       index = indexIn s (periodIn s);
       count = countIn s (periodIn s);
+      score = scoreIn s;
     }
 
 -- the call: the state, or the rejection

@@ -23,6 +23,8 @@ pub struct Opened {
 // What a call on a lent slice goes by: the slice's rejection or 0, and then the numbers of its snapshot, the season value being the one due.
 pub struct Checked {
     pub code: u8,
+    // Whether the snapshot has command 15.
+    pub scored: bool,
     // The rounding rule: whether ties go to the even number, else up.
     pub even: bool,
     pub period: u8,

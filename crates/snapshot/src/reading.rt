@@ -3,6 +3,7 @@ use super::bytes::read_i64;
 use super::bytes::read_le;
 use super::bytes::read_u32;
 use super::fields::is_outside;
+use super::fields::is_scored;
 use layout::ALPHA_AT;
 use layout::BETA_AT;
 use layout::GAMMA_AT;
@@ -13,6 +14,10 @@ use layout::MODEL_BYTE_AT;
 use layout::PERIOD_AT;
 use layout::PHI_AT;
 use layout::POSITION_LENGTH;
+use layout::READINGS_AT;
+use layout::SCORE_AT;
+use layout::SUM_HIGH_AT;
+use layout::SUM_LOW_AT;
 use layout::TREND_VALUE_AT;
 use layout::entry_of;
 use layout::is_command;
@@ -23,6 +28,7 @@ use models::period_ok;
 use state::BAD_MODEL;
 use state::BAD_PERIOD;
 use state::BAD_POSITION;
+use state::BAD_SCORE;
 use state::BAD_VALUE;
 use state::OUT_OF_PLACE;
 use state::TRUNCATED;
@@ -33,6 +39,7 @@ use state::checks::in_range;
 use state::checks::index_ok;
 use state::checks::parameters_code;
 use state::checks::trend_ok;
+use state::checks::words_ok;
 use state::first;
 use state::unless;
 ghost use mathlib.Core.Path.{_≡_};
@@ -40,10 +47,11 @@ ghost use mathlib.Core.Bool.{true, _&&_};
 ghost use Prim.Native.Nat.{_+_, _≤_};
 ghost use lib.ListN.{length};
 ghost use Rattle.state.specs.Fixed.{inRange};
+ghost use Rattle.state.specs.Scores.{scoreOk};
 ghost use Rattle.state.specs.States.{parametersCode, trendOk};
-ghost use Rattle.layout.specs.CommandTable.{isCommand, modelLength, levelLength};
-ghost use Rattle.layout.specs.Layout.{levelAt, seasonAt, modelIn, alphaIn, betaIn, gammaIn, phiIn, levelIn, trendIn};
-ghost use Rattle.snapshot.specs.Snapshots.{dueCode, modelCode, levelCode, seasonCode, positionCode, scanPosition, scanSeasons, scan};
+ghost use Rattle.layout.specs.CommandTable.{isCommand, modelLength, levelLength, scoreLength};
+ghost use Rattle.layout.specs.Layout.{levelAt, scoreAt, seasonAt, scoredIn, modelIn, alphaIn, betaIn, gammaIn, phiIn, levelIn, trendIn, scoreIn};
+ghost use Rattle.snapshot.specs.Snapshots.{dueCode, modelCode, levelCode, scoreCode, seasonCode, positionCode, scanPosition, scanSeasons, scan};
 
 // What the checks of a stream found: the rejection and the offset of its command, or 0 and the offset of what follows.
 pub struct Scanned {
@@ -116,10 +124,21 @@ fn level_code(s: &[u8]) -> u8
     unless(values_at(s), BAD_VALUE)
 }
 
-fn season_code(s: &[u8], k: u8) -> u8
+fn score_code(s: &[u8], scored: bool) -> u8
+    requires { ⌜ scored ≡ scoredIn (now s) ⌝ }
+    ensures { λ r. ⌜ r ≡ scoreCode (now (s .entry)) ⌝ }
+{
+    if scored {
+        return due(s, SCORE_AT, 0x15);
+    }
+    0
+}
+
+fn season_code(s: &[u8], scored: bool, k: u8) -> u8
+    requires { ⌜ scored ≡ scoredIn (now s) ⌝ }
     ensures { λ r. ⌜ r ≡ seasonCode (now (s .entry)) k ⌝ }
 {
-    let at = season_at(k);
+    let at = season_at(scored, k);
     let code = due(s, at, 0x12);
     if code != 0 {
         return code;
@@ -130,26 +149,42 @@ fn season_code(s: &[u8], k: u8) -> u8
     unless(in_range(read_i64(s, at + 2)), BAD_VALUE)
 }
 
-fn position_code(s: &[u8], at: usize, m: u8) -> u8
-    requires { ⌜ at ≡ seasonAt m ⌝ }
+// Check 17: the score of an old snapshot, all 0, passes.
+fn score_at_ok(s: &[u8], scored: bool, count: u64) -> bool
+    requires { ⌜ (scored ≡ scoredIn (now s)) × (scored ≡ true → scoreAt + scoreLength ≤ length (now s)) ⌝ }
+    ensures { λ r. ⌜ r ≡ scoreOk count (scoreIn (now (s .entry))) ⌝ }
+{
+    if !scored {
+        return true;
+    }
+    words_ok(
+        count,
+        read_le(s, READINGS_AT, 8),
+        read_le(s, SUM_HIGH_AT, 8),
+        read_le(s, SUM_LOW_AT, 8),
+    )
+}
+
+fn position_code(s: &[u8], scored: bool, at: usize, m: u8) -> u8
+    requires { ⌜ (scored ≡ scoredIn (now s)) × (scored ≡ true → scoreAt + scoreLength ≤ length (now s)) × (at ≡ seasonAt scored m) ⌝ }
     ensures { λ r. ⌜ r ≡ positionCode (now (s .entry)) m ⌝ }
 {
     let code = due(s, at, 0x13);
     if code != 0 {
         return code;
     }
-    unless(
-        index_ok(m, s[at + 1]) & count_ok(read_le(s, at + 2, 8)),
-        BAD_POSITION,
-    )
+    let count = read_le(s, at + 2, 8);
+    let position = unless(index_ok(m, s[at + 1]) & count_ok(count), BAD_POSITION);
+    first(position, unless(score_at_ok(s, scored, count), BAD_SCORE))
 }
 
 // The command 13, after m places.
-fn scan_position(s: &[u8], m: u8) -> Scanned
+fn scan_position(s: &[u8], scored: bool, m: u8) -> Scanned
+    requires { ⌜ (scored ≡ scoredIn (now s)) × (scored ≡ true → scoreAt + scoreLength ≤ length (now s)) ⌝ }
     ensures { λ r. ⌜ r ≡ scanPosition (now (s .entry)) m ⌝ }
 {
-    let at = season_at(m);
-    let code = position_code(s, at, m);
+    let at = season_at(scored, m);
+    let code = position_code(s, scored, at, m);
     if code != 0 {
         return Scanned { code, offset: at };
     }
@@ -160,21 +195,22 @@ fn scan_position(s: &[u8], m: u8) -> Scanned
 }
 
 // The commands 12 for the places 0 to m − 1 rising, and then 13.
-fn scan_seasons(s: &[u8], m: u8) -> Scanned
+fn scan_seasons(s: &[u8], scored: bool, m: u8) -> Scanned
+    requires { ⌜ (scored ≡ scoredIn (now s)) × (scored ≡ true → scoreAt + scoreLength ≤ length (now s)) ⌝ }
     ensures { λ r. ⌜ r ≡ scanSeasons (now (s .entry)) 0 m (scanPosition (now (s .entry)) m) ⌝ }
 {
     let mut k = 0;
     while k < m {
-        let code = season_code(s, k);
+        let code = season_code(s, scored, k);
         if code != 0 {
             return Scanned {
                 code,
-                offset: season_at(k),
+                offset: season_at(scored, k),
             };
         }
         k += 1;
     }
-    scan_position(s, m)
+    scan_position(s, scored, m)
 }
 
 // A whole snapshot.
@@ -195,5 +231,13 @@ pub fn scan(s: &[u8]) -> Scanned
             offset: LEVEL_AT,
         };
     }
-    scan_seasons(s, s[PERIOD_AT])
+    let scored = is_scored(s);
+    let score = score_code(s, scored);
+    if score != 0 {
+        return Scanned {
+            code: score,
+            offset: SCORE_AT,
+        };
+    }
+    scan_seasons(s, scored, s[PERIOD_AT])
 }

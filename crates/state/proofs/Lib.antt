@@ -4,4 +4,5 @@ pub mod Rounding
 pub mod Passing
 pub mod Regions
 pub mod RoundingCode
+pub mod ScoreCode
 pub mod Switches

@@ -1,5 +1,5 @@
 -- What a state has that the checks let pass, and that what has it passes.
-use Prim.Native.Nat.{ℕ, _<_, _≤_}
+use Prim.Native.Nat.{ℕ, _*_, _<_, _≤_}
 use mathlib.Core.Path.{_≡_, refl}
 use mathlib.Core.Bool.{Bool, true, false, cond, not, _&&_}
 use native.Mathlib.Omega.{arith}
@@ -7,14 +7,16 @@ use lib.Dec.{eqb, ltb, leb}
 use lib.IntN.{ℤ, pos, negℤ}
 use lib.Signed.{leZ}
 use lib.ListN.{getD}
-use borrow.Author.Tests.{ltb-true, leb-true, eqb-true, eq-eqb, ne-eqb, le-ltb, not-false}
+use borrow.Author.Tests.{ltb-true, leb-true, le-leb, eqb-true, eq-eqb, ne-eqb, le-ltb, not-false}
 use Rattle.integers.specs.Bounds.{Within}
 use Rattle.integers.proofs.Difference.{ints}
 use Rattle.integers.proofs.Bounds.{within-zero}
-use Rattle.state.specs.Fixed.{within, inRange, isReading, isZero, maxCount}
+use Rattle.state.specs.Fixed.{within, inRange, isReading, isResidual, isZero, maxCount}
 use Rattle.models.specs.Models.{trendOf, hasTrend, hasSeason, validModel, periodOk, gainOk, dampingOk, parametersOk, usualGains}
+use Rattle.state.specs.Scores.{sumOf, sumOk, scoreOk}
 use Rattle.state.specs.States.{parametersCode, trendOk, cellOk, seasonalOk, indexOk, countOk, check, noState}
 use Rattle.state.specs.Valid.{Bounded, NoTrend, NoSeason, Seasonal, Valid}
+use Rattle.state.specs.declared.Score.{Score}
 use Rattle.state.specs.declared.State.{State}
 use Rattle.integers.proofs.Tests.{both, allBelow-at}
 use Rattle.state.proofs.Tests.{unless-zero, unless-then, then-zero, zero-is}
@@ -29,6 +31,7 @@ pub record Passed (s : State) : Type 0 where
   pub seasonal : seasonalOk (s .period) (s .seasonal) ≡ true
   pub index : indexOk (s .period) (s .index) ≡ true
   pub count : countOk (s .count) ≡ true
+  pub score : scoreOk (s .count) (s .score) ≡ true
 
 pub passed : (s : State) → check s ≡ 0 → Passed s
 unfolding check
@@ -39,7 +42,8 @@ passed s h =
     let c9 = then-zero _ _ (c7 .1) in
     let v2 = both _ _ (unless-zero _ 8 (c9 .0)) in
     let v1 = both _ _ (v2 .0) in
-    let q = both _ _ (unless-zero _ 9 (c9 .1)) in
+    let c10 = then-zero _ _ (c9 .1) in
+    let q = both _ _ (unless-zero _ 9 (c10 .0)) in
     record {
       model = unless-zero _ 4 (c5 .0);
       period = unless-zero _ 5 (c6 .0);
@@ -49,12 +53,13 @@ passed s h =
       seasonal = v2 .1;
       index = q .0;
       count = q .1;
+      score = unless-zero _ 16 (c10 .1);
     }
 
 pub passes : (s : State) → Passed s → check s ≡ 0
 unfolding check
 passes s p =
-    rw (p .model, p .period, p .parameters, p .level, p .trend, p .seasonal, p .index, p .count)
+    rw (p .model, p .period, p .parameters, p .level, p .trend, p .seasonal, p .index, p .count, p .score)
 
 -- each parameter by its test
 pub record Allowed (model A B G F : ℕ) : Type 0 where
@@ -104,6 +109,12 @@ range-in v w = is-within 1099511627776 v w
 pub is-reading : (y : ℤ) → isReading y ≡ true → Within 1000000 y
 is-reading y h = within-is 1000000 y h
 
+pub is-residual : (e : ℤ) → isResidual e ≡ true → Within 3364070883328 e
+is-residual e h = within-is 3364070883328 e h
+
+pub residual-is : (e : ℤ) → Within 3364070883328 e → isResidual e ≡ true
+residual-is e w = is-within 3364070883328 e w
+
 zero-within : (v : ℤ) → isZero v ≡ true → Within 1099511627776 v
 zero-within v h = rw (zero-is v h) (within-zero 1099511627776)
 
@@ -128,11 +139,20 @@ index-lt : (t : Bool) (m p : ℕ) → m ≤ 48 → cond t (eqb p 0) (ltb p m) �
 index-lt true m p l h = omega (arith, eqb-true p 0 h)
 index-lt false m p l h = omega (arith, ltb-true p m h)
 
+pub sum-le : (s : Score) → sumOk s ≡ true → sumOf s ≤ s .readings * 4503599627370496
+unfolding sumOk
+sum-le s h = leb-true (sumOf s) (s .readings * 4503599627370496) h
+
+pub sum-ok : (s : Score) → sumOf s ≤ s .readings * 4503599627370496 → sumOk s ≡ true
+unfolding sumOk
+sum-ok s h = le-leb (sumOf s) (s .readings * 4503599627370496) h
+
 pub bounded : (s : State) → check s ≡ 0 → Bounded s
 bounded s h =
     let p = passed s h in
     let a = allowed s h in
     let m : s .period ≤ 48 = period-le (hasSeason (s .model)) (s .period) (p .period) in
+    let score = both (leb (s .score .readings) (s .count)) (sumOk (s .score)) (p .score) in
     record {
       alpha = leb-true (s .alpha) 65536 (a .alpha);
       beta = gain-le (hasTrend (s .model)) (s .beta) (a .beta);
@@ -144,6 +164,8 @@ bounded s h =
       period = m;
       index = index-lt (eqb (s .period) 0) (s .period) (s .index) m (p .index);
       count = leb-true (s .count) maxCount (p .count);
+      readings = leb-true (s .score .readings) (s .count) (score .0);
+      sum = sum-le (s .score) (score .1);
     }
 
 -- ---- what a model does not have is 0

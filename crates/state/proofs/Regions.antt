@@ -6,10 +6,12 @@ use native.Mathlib.Omega.{arith}
 use borrow.Author.Tests.{leb-true, le-leb, eqb-true}
 use Rattle.state.specs.Rejections.{unless, _then_}
 use Rattle.models.specs.Models.{parametersOk, usualGains}
+use Rattle.state.specs.Scores.{noScore, sumOf, sumOk, scoreOk}
 use Rattle.state.specs.States.{parametersCode, valuesOk, positionOk, check}
 use Rattle.state.specs.Regions.{isUsual, RegionLaws}
+use Rattle.state.specs.declared.Score.{Score}
 use Rattle.state.specs.declared.State.{State}
-use Rattle.state.proofs.Tests.{then-assoc}
+use Rattle.state.proofs.Tests.{then-assoc, then-none}
 use Rattle.state.proofs.Passing.{passed, each-allowed}
 
 -- the code of the parameters by its tests: they are allowed, and the gains usual
@@ -37,6 +39,11 @@ opener-is false true true h = refl
 opener-is false true false h = absurd (omega arith)
 opener-is false false usual h = absurd (omega arith)
 
+-- a score of zeros is never rejected
+scored-none : (count : ℕ) (score : Score) → score ≡ noScore → scoreOk count score ≡ true
+unfolding sumOf sumOk
+scored-none count score e = rw (e, le-leb 0 count (omega arith))
+
 abbrev ok : State → Bool
 ok s = parametersOk (s .model) (s .alpha) (s .beta) (s .gamma) (s .phi)
 
@@ -46,7 +53,8 @@ region-laws =
     record {
       parameters = λ model A B G F. called-for (parametersOk model A B G F) (usualGains A B G);
       same = λ s. rw (called-for (ok s) (isUsual s)) (simp then-assoc);
-      other = λ s. rw (not-called-for (ok s) (isUsual s) (unless (valuesOk s) 9 then unless (positionOk s) 10)) (simp then-assoc);
+      other = λ s. rw (not-called-for (ok s) (isUsual s) (unless (valuesOk s) 9 then unless (positionOk s) 10 then unless (scoreOk (s .count) (s .score)) 17)) (simp then-assoc);
+      unscored = λ s e. rw (scored-none (s .count) (s .score) e, then-none (unless (positionOk s) 10));
       opener = λ s h. opener-is (s .outside) (ok s) (isUsual s) (passed s h .parameters);
       simple = λ model A B G F t s h.
           let p = each-allowed model A B G F h in

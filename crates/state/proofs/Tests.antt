@@ -35,6 +35,11 @@ unless-then false n k e = let z : suc n ≡ 0 = rw (eqb·suc-zero n) at e in abs
 pub then-first : (n k : ℕ) → (n ≡ 0 → ⊥) → (n then k) ≡ n
 then-first n k h = rw (ne-eqb n 0 h)
 
+-- a check that rejects nothing, after others
+pub then-none : (n : ℕ) → (n then 0) ≡ n
+then-none zero = refl
+then-none (suc n) = rw (eqb·suc-zero n)
+
 -- the code takes checks from the first on, the definition from the last
 pub then-assoc : (a b c : ℕ) → ((a then b) then c) ≡ (a then b then c)
 then-assoc zero b c = refl

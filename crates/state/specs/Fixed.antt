@@ -13,6 +13,10 @@ within n v = leZ (negℤ (pos n)) v && leZ v (pos n)
 abbrev pub isReading : ℤ → Bool
 isReading y = within 1000000 y
 
+-- so e = 65536 × y − (l + d + s) is from −3,364,070,883,328 to that number
+abbrev pub isResidual : ℤ → Bool
+isResidual e = within 3364070883328 e
+
 -- the paper's mark, −2,147,483,648: the sentinel of a missing reading in a slice
 abbrev pub isSentinel : ℤ → Bool
 isSentinel (pos n) = false
@@ -36,7 +40,7 @@ unfoldable pub R : Bool → ℤ → ℤ
 R false v = shrZ (v +ℤ pos 32768) 65536
 R true v = shrZ (v +ℤ pos (32767 + natAbs (shrZ v 65536) % 2)) 65536
 
--- R(a × x), the share that a 65,536th parameter a gives of x: every use of R is one
+-- R(a × x), the share that a 65,536th parameter a gives of x: every use of R but the score's R(e) is one
 unfoldable pub share : Bool → ℕ → ℤ → ℤ
 share even a x = R even (pos a *ℤ x)
 

@@ -1,5 +1,6 @@
 pub mod Rejections
 pub mod Fixed
+pub mod Scores
 pub mod States
 pub mod Valid
 pub mod Rounding

@@ -72,6 +72,10 @@ leaves-range = 15
 abbrev pub unusual-gains : ℕ
 unusual-gains = 16
 
+-- The real readings exceed the count, or the sum of their squares exceeds readings × 2^52. (Checked right after 10.)
+abbrev pub bad-score : ℕ
+bad-score = 17
+
 -- a check: 0 where the test holds, else its rejection
 abbrev pub unless : Bool → ℕ → ℕ
 unless holds n = cond holds 0 n

@@ -1,19 +1,22 @@
--- Document 01, "Grains and states", and document 02, W-201: what a state holds, and the checks 5, 6, 7, 16, 9 and 10 of a state handed in directly.
-use Prim.Native.Nat.{ℕ, _-_}
+-- Document 01, "Grains and states", and document 02, W-201 and W-204: what a state holds, and the checks 5, 6, 7, 16, 9, 10 and 17 of a state handed in directly.
+use Prim.Native.Nat.{ℕ, _-_, _<_}
+use mathlib.Core.Path.{_≡_}
 use mathlib.Core.Bool.{Bool, false, cond, not, _&&_, _||_}
 use mathlib.Core.List.{List, [], _++_}
 use lib.Dec.{eqb, ltb, leb}
 use lib.IntN.{ℤ, pos}
 use lib.ListN.{getD, length, replicate}
-use Rattle.state.specs.Rejections.{unless, _then_, bad-model, bad-period, bad-parameter, unusual-gains, bad-value, bad-position}
+use Rattle.state.specs.Rejections.{unless, _then_, bad-model, bad-period, bad-parameter, unusual-gains, bad-value, bad-position, bad-score}
 use Rattle.state.specs.Fixed.{inRange, isZero, maxCount}
+use Rattle.state.specs.Scores.{noScore, scoreOk}
 use Rattle.integers.specs.Below.{allBelow}
 use Rattle.models.specs.Models.{hasTrend, validModel, periodOk, parametersOk, usualGains}
+use Rattle.state.specs.declared.Score.{Score}
 use Rattle.state.specs.declared.State.{State}
 
--- a state by whether 18 opened it (else 10 did) and its numbers: model, m, A, B, G, F, l, b, the first season cells (the others are 0), p, count
-abbrev pub stateOf : Bool → ℕ → ℕ → ℕ → ℕ → ℕ → ℕ → ℤ → ℤ → List ℤ → ℕ → ℕ → State
-stateOf outside model m A B G F l b cells p count =
+-- a state by whether 18 opened it (else 10 did) and its numbers: model, m, A, B, G, F, l, b, the first season cells (the others are 0), p, count, score
+abbrev pub stateOf : Bool → ℕ → ℕ → ℕ → ℕ → ℕ → ℕ → ℤ → ℤ → List ℤ → ℕ → ℕ → Score → State
+stateOf outside model m A B G F l b cells p count score =
     record {
       outside = outside;
       model = model;
@@ -27,11 +30,12 @@ stateOf outside model m A B G F l b cells p count =
       seasonal = cells ++ replicate (48 - length cells) (pos 0);
       index = p;
       count = count;
+      score = score;
     }
 
--- the state with other values, place and count; nothing else of a state changes
-abbrev pub moved : State → ℤ → ℤ → List ℤ → ℕ → ℕ → State
-moved s l b cells p count =
+-- the state with other values, place, count and score; nothing else of a state changes
+abbrev pub moved : State → ℤ → ℤ → List ℤ → ℕ → ℕ → Score → State
+moved s l b cells p count score =
     record {
       outside = s .outside;
       model = s .model;
@@ -45,11 +49,17 @@ moved s l b cells p count =
       seasonal = cells;
       index = p;
       count = count;
+      score = score;
     }
+
+-- what the types of the code's state hold, beside its checks: 48 season cells, and a low word of 64 bits
+pub record Typed (s : State) : Type 0 where
+  pub cells : length (s .seasonal) ≡ 48
+  pub low : s .score .low < 18446744073709551616
 
 -- no state: what stands in the place of one after a rejection. Its model byte is not valid, so every call rejects it
 unfoldable pub noState : State
-noState = stateOf false 255 0 0 0 0 0 (pos 0) (pos 0) [] 0 0
+noState = stateOf false 255 0 0 0 0 0 (pos 0) (pos 0) [] 0 0 noScore
 
 -- the parameters of a state that 18 opened (outside) or 10: 7 where the model does not allow them, or 18 has gains inside the usual region; 16 where 10 has gains outside it
 unfoldable pub parametersCode : Bool → ℕ → ℕ → ℕ → ℕ → ℕ → ℕ
@@ -85,7 +95,7 @@ valuesOk s = inRange (s .level) && trendOk (s .model) (s .trend) && seasonalOk (
 abbrev pub positionOk : State → Bool
 positionOk s = indexOk (s .period) (s .index) && countOk (s .count)
 
--- the state's first rejection in the order 5, 6, 7, 16, 9, 10, or 0
+-- the state's first rejection in the order 5, 6, 7, 16, 9, 10, 17, or 0
 unfoldable pub check : State → ℕ
 check s =
     unless (validModel (s .model)) bad-model
@@ -93,3 +103,4 @@ check s =
     then parametersCode (s .outside) (s .model) (s .alpha) (s .beta) (s .gamma) (s .phi)
     then unless (valuesOk s) bad-value
     then unless (positionOk s) bad-position
+    then unless (scoreOk (s .count) (s .score)) bad-score

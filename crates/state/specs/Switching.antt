@@ -24,6 +24,7 @@ switched s =
       seasonal = s .seasonal;
       index = s .index;
       count = s .count;
+      score = s .score;
     }
 
 -- the call, rejected by the state's checks

@@ -1,11 +1,12 @@
 -- What a state has that the checks let pass: the facts that private functions require.
-use Prim.Native.Nat.{ℕ, _<_, _≤_}
+use Prim.Native.Nat.{ℕ, _*_, _<_, _≤_}
 use mathlib.Core.Path.{_≡_}
 use mathlib.Core.Bool.{true, false}
 use lib.IntN.{pos}
 use lib.ListN.{getD}
 use Rattle.integers.specs.Bounds.{Within}
 use Rattle.state.specs.Fixed.{maxCount}
+use Rattle.state.specs.Scores.{sumOf}
 use Rattle.models.specs.Models.{hasTrend, hasSeason}
 use Rattle.state.specs.declared.State.{State}
 
@@ -21,6 +22,8 @@ pub record Bounded (s : State) : Type 0 where
   pub period : s .period ≤ 48
   pub index : s .index < 48
   pub count : s .count ≤ maxCount
+  pub readings : s .score .readings ≤ s .count
+  pub sum : sumOf (s .score) ≤ s .score .readings * 4503599627370496
 
 -- what a model does not have is 0
 pub record NoTrend (s : State) : Type 0 where

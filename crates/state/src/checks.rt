@@ -1,11 +1,13 @@
-// The checks 5, 6, 7, 16, 9 and 10 of a state handed in directly.
+// The checks 5, 6, 7, 16, 9, 10 and 17 of a state handed in directly.
 use super::BAD_MODEL;
 use super::BAD_PARAMETER;
 use super::BAD_PERIOD;
 use super::BAD_POSITION;
+use super::BAD_SCORE;
 use super::BAD_VALUE;
 use super::MAX_COUNT;
 use super::MAX_VALUE;
+use super::Score;
 use super::State;
 use super::UNUSUAL_GAINS;
 use super::first;
@@ -17,13 +19,21 @@ use models::period_ok;
 use models::pick;
 use models::usual_gains;
 ghost use mathlib.Core.Path.{_≡_};
-ghost use Rattle.state.specs.Fixed.{isReading, isSentinel, inRange, isZero};
+ghost use Rattle.state.specs.Fixed.{isReading, isResidual, isSentinel, inRange, isZero};
+ghost use Rattle.state.specs.Scores.{scoreOf, sumOk, scoreOk};
 ghost use Rattle.state.specs.States.{parametersCode, trendOk, cellOk, seasonalOk, valuesOk, indexOk, countOk, positionOk, check};
 
 pub fn is_reading(y: i32) -> bool
     ensures { λ r. ⌜ r ≡ isReading y ⌝ }
 {
     (-1_000_000 <= y) & (y <= 1_000_000)
+}
+
+// A residual that a reading can have: 65,536,000,000 and three values.
+pub fn is_residual(e: i64) -> bool
+    ensures { λ r. ⌜ r ≡ isResidual e ⌝ }
+{
+    (-3_364_070_883_328 <= e) & (e <= 3_364_070_883_328)
 }
 
 // Document 01's mark: a missing reading in a slice.
@@ -91,6 +101,28 @@ pub fn count_ok(n: u64) -> bool
     n <= MAX_COUNT
 }
 
+// The sum is at most readings × 2^52, word by word: those of the limit are readings >> 12 and the 12 bits below it << 52.
+fn sum_ok(readings: u64, high: u64, low: u64) -> bool
+    ensures { λ r. ⌜ r ≡ sumOk (scoreOf readings high low) ⌝ }
+{
+    let most_high = readings / 4096;
+    let most_low = (readings % 4096) * 4_503_599_627_370_496;
+    (high < most_high) | ((high == most_high) & (low <= most_low))
+}
+
+// Check 17 as a test, of the three words and of a score.
+pub fn words_ok(count: u64, readings: u64, high: u64, low: u64) -> bool
+    ensures { λ r. ⌜ r ≡ scoreOk count (scoreOf readings high low) ⌝ }
+{
+    (readings <= count) & sum_ok(readings, high, low)
+}
+
+pub fn score_ok(count: u64, s: Score) -> bool
+    ensures { λ r. ⌜ r ≡ scoreOk count s ⌝ }
+{
+    words_ok(count, s.readings, s.high, s.low)
+}
+
 // Checks 9 and 10 as tests.
 fn values_ok(s: State) -> bool
     ensures { λ r. ⌜ r ≡ valuesOk s ⌝ }
@@ -113,5 +145,6 @@ pub fn check(s: State) -> u8
     code = first(code, unless(period_ok(s.model, s.period), BAD_PERIOD));
     code = first(code, parameters);
     code = first(code, unless(values_ok(s), BAD_VALUE));
-    first(code, unless(position_ok(s), BAD_POSITION))
+    code = first(code, unless(position_ok(s), BAD_POSITION));
+    first(code, unless(score_ok(s.count, s.score), BAD_SCORE))
 }

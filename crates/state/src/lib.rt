@@ -6,6 +6,7 @@ ghost use mathlib.Core.Path.{_≡_};
 ghost use Rattle.state.specs.Rejections.{unless, _then_, outcomeCode};
 ghost use Rattle.state.specs.Regions.{RegionLaws};
 ghost use Rattle.state.specs.Rounding.{Rounding};
+ghost use Rattle.state.specs.Scores.{noScore};
 ghost use Rattle.state.specs.States.{noState};
 
 // The numbers of the refusals of documents 01 and 02.
@@ -41,11 +42,20 @@ pub const LEAVES_RANGE: u8 = 15;
 
 pub const UNUSUAL_GAINS: u8 = 16;
 
+pub const BAD_SCORE: u8 = 17;
+
 // 2^40: level, trend and season values are at most that, and at least its negative.
 pub const MAX_VALUE: i64 = 0x100_0000_0000;
 
 // 2^48, the most steps that a state counts.
 pub const MAX_COUNT: u64 = 0x1_0000_0000_0000;
+
+// The score of a state: its real readings, and the sum of the squares of R(e) over them as a high and a low word.
+pub struct Score {
+    pub readings: u64,
+    pub high: u64,
+    pub low: u64,
+}
 
 // Level, trend and season values are fixed-point numbers with 16 fraction bits (document 01's grains).
 pub struct State {
@@ -65,6 +75,18 @@ pub struct State {
     // The place p: the seasonal index that is due.
     pub index: u8,
     pub count: u64,
+    pub score: Score,
+}
+
+// No reading yet.
+pub fn no_score() -> Score
+    ensures { λ r. ⌜ r ≡ noScore ⌝ }
+{
+    Score {
+        readings: 0,
+        high: 0,
+        low: 0,
+    }
 }
 
 // What stands in the place of a state after a rejection: every call rejects it.
@@ -84,6 +106,7 @@ pub fn no_state() -> State
         seasonal: [0; 48],
         index: 0,
         count: 0,
+        score: no_score(),
     }
 }
 

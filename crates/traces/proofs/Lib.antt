@@ -1,3 +1,4 @@
 pub mod Slices
 pub mod Results
 pub mod Lists
+pub mod Scores

@@ -1,41 +1,41 @@
 -- What every call keeps, and the slices of calls in place.
-use Prim.Native.Nat.{ℕ, _<_}
+use Prim.Native.Nat.{ℕ}
 use mathlib.Core.Path.{_≡_, refl, sym, _∙_, ap}
 use mathlib.Core.Bool.{Bool, true, false, cond}
-use mathlib.Core.List.{List, [], _∷_, append-nil}
+use mathlib.Core.List.{List, [], _∷_, _++_, append-nil}
 use lib.Dec.{eqb}
 use lib.IntN.{ℤ}
-use lib.ListN.{length, getD}
+use lib.ListN.{length}
 use Rattle.state.specs.Rejections.{answerValue}
 use Rattle.state.specs.Fixed.{isSentinel}
-use Rattle.state.specs.Switching.{switched}
+use Rattle.state.specs.States.{check}
+use Rattle.state.specs.Switching.{switched, switchToEven}
 use Rattle.state.specs.declared.State.{State}
 use Rattle.state.proofs.Switches.{checks-kept}
-use Rattle.ets.specs.Steps.{stepCode, missingCode, afterReading, afterMissing}
+use Rattle.state.proofs.Tests.{then-zero}
+use Rattle.ets.specs.Steps.{stepCode, missingCode, afterReading, afterMissing, step, missing as missing-call}
 use Rattle.ets.specs.Batches.{run, preceded, halted, takeCode, afterTake, batchCode, batchRun}
 use Rattle.forecasts.specs.Forecasts.{maxHorizon, forecastCode, forecastOf, forecast}
 use Rattle.forecasts.proofs.ForecastLaws.{list-length}
-use Rattle.ets.proofs.Kept.{reading-kept, missing-kept}
+use Rattle.ets.proofs.Kept.{reading-typed, reading-kept, missing-kept}
+use Rattle.layout.specs.Layout.{scoredIn}
 use Rattle.snapshot.specs.Snapshots.{decoded}
 use Rattle.snapshot.specs.Slices.{inPlaceCode}
-use Rattle.snapshot.proofs.Accepting.{one-snapshot}
-use Rattle.snapshot.proofs.Decoded.{accepted-passes, length-decoded}
 use Rattle.saving.specs.Encoding.{encoded}
-use Rattle.saving.specs.InPlace.{inPlaceStepBytes, inPlaceMissingBytes, inPlaceSwitchBytes}
-use Rattle.saving.proofs.InPlaceLaws.{in-place-is-direct}
-use Rattle.saving.proofs.RoundTrip.{whole}
+use Rattle.saving.specs.InPlace.{roomCode, rewriteCode, rejection, bytesAfter, inPlaceStepCode, inPlaceStepBytes, inPlaceMissingCode, inPlaceMissingBytes, inPlaceSwitchCode, inPlaceSwitchBytes, inPlaceForecastCode, inPlaceForecast}
+use Rattle.saving.proofs.InPlaceLaws.{in-place-encoded, room-encoded, in-place-is-direct}
 use Rattle.traces.specs.Calls.{followed, Reading, Missing, Switch, Forecast, InPlaceReading, InPlaceMissing, InPlaceSwitch, InPlaceForecast, horizon, Result, result}
-use Rattle.traces.specs.Laws.{filled, Passing, CallLaws, InPlaceLaws, Holds, SliceLaws}
+use Rattle.traces.specs.Laws.{AreBytes, filled, Passing, CallLaws, InPlaceLaws, Holds, ReadingLaw, MissingLaw, SwitchLaw, ForecastLaw, SliceLaws}
 use Rattle.traces.proofs.Slices.{too-short}
-use Rattle.traces.proofs.Results.{by-code, Works, reads, misses, switches, takes, forecasts-one, forecasts-all, works, cells-after, reading-code, missed-code, forecast-rejection, forecast-answer}
+use Rattle.traces.proofs.Results.{by-code, Works, reads, misses, switches, takes, forecasts-one, forecasts-all, works, reading-code, missed-code, forecast-rejection, forecast-answer}
 
 -- ---- a state that passes stays one
 module _ (s : State) (w : Passing s) where
   after-reading : (y : ℤ) → stepCode s y ≡ 0 → Passing (afterReading s y)
-  after-reading y z = record { cells = cells-after s y (w .cells); passes = reading-kept s y (w .cells) z }
+  after-reading y z = record { typed = reading-typed s y (w .typed); passes = reading-kept s y (w .typed .cells) z }
 
   after-missing : missingCode s ≡ 0 → Passing (afterMissing s)
-  after-missing z = record { cells = w .cells; passes = missing-kept s z }
+  after-missing z = record { typed = record { cells = w .typed .cells; low = w .typed .low }; passes = missing-kept s z }
 
   after-take : (y : ℤ) → takeCode s y ≡ 0 → Passing (afterTake s y)
   unfolding takeCode afterTake
@@ -44,6 +44,9 @@ module _ (s : State) (w : Passing s) where
       go : (b : Bool) → cond b (missingCode s) (stepCode s y) ≡ 0 → Passing (cond b (afterMissing s) (afterReading s y))
       go true = after-missing
       go false = after-reading y
+
+  after-switch : Passing (switched s)
+  after-switch = record { typed = record { cells = w .typed .cells; low = w .typed .low }; passes = checks-kept s ∙ w .passes }
 
 after-run : (ys : List ℤ) (s : State) → Passing s → Passing (run s ys .state)
 unfolding run
@@ -60,16 +63,16 @@ after-batch ys room s w =
     (λ z. after-run ys s w)
     w
 
-stays : (s : State) → Passing s → {r : Result} → Works s r → Passing (r .state)
+stays : (s : State) → Passing s → {q : List ℕ} {r : Result} → Works s q r → Passing (r .state)
 stays s w (reads y n f) = by-code (λ b. Passing (cond b (afterReading s y) s)) n (λ z. after-reading s w y (f z)) w
 stays s w (misses n f) = by-code (λ b. Passing (cond b (afterMissing s) s)) n (λ z. after-missing s w (f z)) w
 stays s w (switches n) =
-    by-code (λ b. Passing (cond b (switched s) s)) n (λ z. record { cells = w .cells; passes = checks-kept s ∙ w .passes }) w
+    by-code (λ b. Passing (cond b (switched s) s)) n (λ z. after-switch s w) w
 stays s w (takes ys room) = after-batch ys room s w
 stays s w (forecasts-one h n v f) = w
 stays s w (forecasts-all h n zs f) = w
 
-counted : (s : State) {r : Result} → Works s r → length (r .numbers) ≡ filled (r .event)
+counted : (s : State) {q : List ℕ} {r : Result} → Works s q r → length (r .numbers) ≡ filled (r .event)
 counted s (reads y n f) = by-code (λ b. length {A = ℤ} (cond b [] []) ≡ 0) n (λ z. refl) refl
 counted s (misses n f) = by-code (λ b. length {A = ℤ} (cond b [] []) ≡ 0) n (λ z. refl) refl
 counted s (switches n) = refl
@@ -79,7 +82,7 @@ counted s (forecasts-all h n zs f) = by-code (λ b. length (cond b zs []) ≡ co
 
 pub call-laws : CallLaws
 call-laws s w k =
-    let u = works s (w .cells) (w .passes) k in
+    let u = works s (w .typed) (w .passes) k in
     record { stays = stays s w u; counted = counted s u }
 
 -- ---- in place
@@ -87,62 +90,93 @@ module _ (s : State) (w : Passing s) where
   same-reading : (y : ℤ) → result s (InPlaceReading (followed []) y) ≡ result s (Reading y)
   unfolding result
   same-reading y =
-      rw (append-nil (encoded s), in-place-is-direct .step s (w .cells) (w .passes) y .holds, in-place-is-direct .step s (w .cells) (w .passes) y .code, reading-code s y)
+      rw (append-nil (encoded s), in-place-is-direct .step s (w .typed) (w .passes) y .holds, in-place-is-direct .step s (w .typed) (w .passes) y .code, reading-code s y)
 
   same-missing : result s (InPlaceMissing (followed [])) ≡ result s Missing
   unfolding result
   same-missing =
-      rw (append-nil (encoded s), in-place-is-direct .missing s (w .cells) (w .passes) .holds, in-place-is-direct .missing s (w .cells) (w .passes) .code, missed-code s)
+      rw (append-nil (encoded s), in-place-is-direct .missing s (w .typed) (w .passes) .holds, in-place-is-direct .missing s (w .typed) (w .passes) .code, missed-code s)
 
   same-switch : result s (InPlaceSwitch (followed [])) ≡ result s Switch
   unfolding result
-  same-switch = rw (append-nil (encoded s), in-place-is-direct .switch s (w .cells) (w .passes) .holds)
+  same-switch = rw (append-nil (encoded s), in-place-is-direct .switch s (w .typed) (w .passes) .holds)
 
   same-forecast : (h : ℕ) (old : ℤ) → result s (InPlaceForecast (followed []) h old) ≡ result s (Forecast maxHorizon h)
   unfolding result
   same-forecast h old =
-      rw (append-nil (encoded s), in-place-is-direct .forecast s (w .cells) (w .passes) h .code, in-place-is-direct .forecast s (w .cells) (w .passes) h .number old, forecast-rejection maxHorizon s h)
+      rw (append-nil (encoded s), in-place-is-direct .forecast s (w .typed) (w .passes) h .code, in-place-is-direct .forecast s (w .typed) (w .passes) h .number old, forecast-rejection maxHorizon s h)
       (ap (λ (zs : List ℤ). record { state = s; event = horizon h (eqb (forecastCode s h) 0); numbers = zs }) (by-code (λ b. cond b (cond b (forecastOf s h) old ∷ []) [] ≡ cond b (answerValue (forecast s h) ∷ []) []) (forecastCode s h) (λ z. ap (λ (v : ℤ). v ∷ []) (sym (forecast-answer maxHorizon s h z))) refl))
 
 pub in-place-laws : InPlaceLaws
 in-place-laws s w = record { reading = same-reading s w; missing = same-missing s w; switch = same-switch s w; forecast = same-forecast s w }
 
 -- ---- slices
-opening : (d : List ℕ) → ((i : ℕ) → getD d i 0 < 256) → inPlaceCode d ≡ 0 → Holds d (decoded d)
+opening : (d : List ℕ) → AreBytes d → rewriteCode d ≡ 0 → Holds d (decoded d)
 opening d b z =
-    let o = one-snapshot d z in
-    record {
-      bytes = sym (whole d (λ i. record { fits = b i }) (o .0) (o .1)) ∙ sym (append-nil (encoded (decoded d)));
-      state = record { cells = length-decoded d; passes = accepted-passes d (o .0) };
-    }
+    let h = in-place-is-direct .slice d (λ i. record { fits = b i }) (then-zero (inPlaceCode d) (roomCode d) z .0) in
+    record { rewritable = z; state = refl; passing = record { typed = h .typed; passes = h .passes } }
+
+saved : (d : List ℕ) (s : State) → AreBytes d → Holds d s → scoredIn d ≡ true → d ≡ encoded s ++ []
+saved d s b w e =
+    let h = in-place-is-direct .slice d (λ i. record { fits = b i }) (then-zero (inPlaceCode d) (roomCode d) (w .rewritable) .0) in
+    sym (h .new e) ∙ ap encoded (w .state) ∙ sym (append-nil (encoded s))
+
+encoded-holds : (s : State) → Passing s → Holds (encoded s) s
+encoded-holds s w =
+    let r = in-place-encoded s (w .typed) (w .passes) in
+    record { rewritable = rw (r .0) (room-encoded s); state = r .1; passing = w }
 
 module _ (d : List ℕ) (s : State) (w : Holds d s) where
-  d-is : d ≡ encoded s
-  d-is = w .bytes ∙ append-nil (encoded s)
+  -- the slice by the rejection of the call on the state
+  code-is : (code : State → ℕ) → rejection code d ≡ code s
+  code-is code = rw (w .rewritable, w .state)
 
-  reading : (y : ℤ) → Holds (inPlaceStepBytes d y) (result s (InPlaceReading (followed []) y) .state)
-  unfolding result
+  keeps : (code : State → ℕ) (next : State → State) → (code s ≡ 0 → Passing (next s)) → Holds (bytesAfter code next d) (cond (eqb (code s) 0) (next s) s)
+  keeps code next f =
+      rw (code-is code, w .state)
+      (by-code (λ b. Holds (cond b (encoded (next s)) d) (cond b (next s) s)) (code s) (λ z. encoded-holds (next s) (f z)) w)
+
+  reading : (y : ℤ) → ReadingLaw d s y
+  unfolding result inPlaceStepCode inPlaceStepBytes step
   reading y =
+      let p = w .passing in
+      let r = in-place-is-direct .step s (p .typed) (p .passes) y in
       record {
-        bytes = rw (d-is, append-nil (encoded s), in-place-is-direct .step s (w .state .cells) (w .state .passes) y .holds) (in-place-is-direct .step s (w .state .cells) (w .state .passes) y .bytes ∙ sym (append-nil (encoded _)));
-        state = call-laws s (w .state) (InPlaceReading (followed []) y) .stays;
+        code = rw (append-nil (encoded s)) (code-is (λ t. stepCode t y) ∙ sym (r .code));
+        holds = rw (append-nil (encoded s), r .holds) (keeps (λ t. stepCode t y) (λ t. afterReading t y) (after-reading s p y));
       }
 
-  missing : Holds (inPlaceMissingBytes d) (result s (InPlaceMissing (followed [])) .state)
-  unfolding result
+  missing : MissingLaw d s
+  unfolding result inPlaceMissingCode inPlaceMissingBytes missing-call
   missing =
+      let p = w .passing in
+      let r = in-place-is-direct .missing s (p .typed) (p .passes) in
       record {
-        bytes = rw (d-is, append-nil (encoded s), in-place-is-direct .missing s (w .state .cells) (w .state .passes) .holds) (in-place-is-direct .missing s (w .state .cells) (w .state .passes) .bytes ∙ sym (append-nil (encoded _)));
-        state = call-laws s (w .state) (InPlaceMissing (followed [])) .stays;
+        code = rw (append-nil (encoded s)) (code-is missingCode ∙ sym (r .code));
+        holds = rw (append-nil (encoded s), r .holds) (keeps missingCode (λ t. afterMissing t) (after-missing s p));
       }
 
-  switch : Holds (inPlaceSwitchBytes d) (result s (InPlaceSwitch (followed [])) .state)
-  unfolding result
+  switch : SwitchLaw d s
+  unfolding result inPlaceSwitchCode inPlaceSwitchBytes switchToEven
   switch =
+      let p = w .passing in
+      let r = in-place-is-direct .switch s (p .typed) (p .passes) in
       record {
-        bytes = rw (d-is, append-nil (encoded s), in-place-is-direct .switch s (w .state .cells) (w .state .passes) .holds) (in-place-is-direct .switch s (w .state .cells) (w .state .passes) .bytes ∙ sym (append-nil (encoded _)));
-        state = call-laws s (w .state) (InPlaceSwitch (followed [])) .stays;
+        code = rw (append-nil (encoded s)) (code-is check ∙ sym (r .code));
+        holds = rw (append-nil (encoded s), r .holds) (keeps check (λ t. switched t) (λ z. after-switch s p));
+      }
+
+  forecast-in : (h : ℕ) → ForecastLaw d s h
+  unfolding inPlaceForecastCode inPlaceForecast
+  forecast-in h =
+      let p = w .passing in
+      let z = then-zero (inPlaceCode d) (roomCode d) (w .rewritable) .0 in
+      let r = in-place-encoded s (p .typed) (p .passes) in
+      record {
+        code = rw (append-nil (encoded s), z, w .state, r .0, r .1);
+        number = λ old. rw (append-nil (encoded s), z, w .state, r .0, r .1);
       }
 
 pub slice-laws : SliceLaws
-slice-laws = record { opening = opening; reading = reading; missing = missing; switch = switch; short = too-short }
+slice-laws =
+    record { opening = opening; saved = saved; reading = reading; missing = missing; switch = switch; forecast = forecast-in; short = too-short }

@@ -1,17 +1,19 @@
 -- What a slice of a list's call holds: the state that stands, or nothing that is accepted.
 use Prim.Native.Nat.{ℕ, _<_, _≤_}
 use mathlib.Core.Path.{_≡_, refl, _∙_}
+use mathlib.Core.Bool.{true}
 use mathlib.Core.List.{List, [], _++_, append-nil}
 use native.Mathlib.Decide.{decLe}
 use native.Mathlib.Omega.{arith}
 use lib.ListN.{length, take, drop, getD, take-append-drop}
 use lib.Seq.{take-all, length-take-le, getD-take}
-use Rattle.state.specs.States.{check}
+use Rattle.state.specs.States.{Typed, check}
 use Rattle.state.specs.declared.State.{State}
-use Rattle.snapshot.specs.Snapshots.{decoded}
+use Rattle.layout.specs.Layout.{endAt, scoredIn, periodIn}
+use Rattle.snapshot.specs.Snapshots.{openOffset, decoded}
 use Rattle.snapshot.specs.Slices.{inPlaceCode}
-use Rattle.snapshot.proofs.Accepting.{accepted-size, one-snapshot}
-use Rattle.saving.specs.Encoding.{modelBytes, encoded}
+use Rattle.snapshot.proofs.Accepting.{accepted-size, one-snapshot, nothing-after}
+use Rattle.saving.specs.Encoding.{toBytes, modelBytes, levelBytes, scoreBytes, encoded}
 use Rattle.saving.proofs.RoundTrip.{read-back, length-encoded}
 use Rattle.traces.specs.Calls.{Slice, followed, cut, sliceOf, stateIn}
 
@@ -20,16 +22,25 @@ period-in : (s : State) → getD (encoded s) 2 0 ≡ s .period
 unfolding encoded modelBytes
 period-in s = refl
 
+score-in : (s : State) → getD (encoded s) 36 0 ≡ 0x15
+unfolding encoded modelBytes levelBytes scoreBytes toBytes
+score-in s = refl
+
 pub too-short : (s : State) (size : ℕ) → size < length (encoded s) → inPlaceCode (take size (encoded s)) ≡ 0 → ⊥
 unfolding decoded
 too-short s size h z =
-    let o = one-snapshot (take size (encoded s)) z in
-    let w = accepted-size (take size (encoded s)) (o .0) .0 in
-    let l : length (take size (encoded s)) ≡ size = length-take-le size (encoded s) (omega arith) in
-    let p : getD (take size (encoded s)) 2 0 ≡ s .period = getD-take size (encoded s) 2 0 (omega arith) ∙ period-in s in
-    omega (arith, length-encoded s)
+    let d = take size (encoded s) in
+    let o = one-snapshot d z in
+    let w = accepted-size d (o .0) in
+    let l : length d ≡ size = length-take-le size (encoded s) (omega arith) in
+    let n : 46 ≤ size = omega arith in
+    let p : getD d 2 0 ≡ s .period = getD-take size (encoded s) 2 0 (omega arith) ∙ period-in s in
+    let q : getD d 36 0 ≡ 0x15 = getD-take size (encoded s) 36 0 (omega arith) ∙ score-in s in
+    let e : scoredIn d ≡ true = rw q in
+    let v : openOffset d ≡ endAt true (periodIn d) = rw e at (w .0) in
+    omega (arith, length-encoded s, nothing-after d z e)
 
-module _ (s : State) (full : length (s .seasonal) ≡ 48) (ok : check s ≡ 0) where
+module _ (s : State) (full : Typed s) (ok : check s ≡ 0) where
   saved : (trailing : List ℕ) → decoded (encoded s ++ trailing) ≡ s
   saved trailing = read-back s trailing full ok .2
 

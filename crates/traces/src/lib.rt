@@ -1,5 +1,6 @@
 // Lists of calls: document 01, "One step". The vocabulary is in specs/. Each function is a promise: it does nothing, and its contract is a theorem.
 ghost use Rattle.traces.specs.Laws.{CallLaws, InPlaceLaws, SliceLaws};
+ghost use Rattle.traces.specs.Scores.{ScoreLaws};
 
 // A call leaves a state that the next one can take, and answers a number for each cell that it filled and each forecast.
 pub fn call_laws()
@@ -11,7 +12,12 @@ pub fn in_place_laws()
     ensures { λ _. ⌜ InPlaceLaws ⌝ }
 {}
 
-// The slice that a call in place leaves is the one that the list hands to the next.
+// The slice that a call in place leaves holds the state that the list hands to the next.
 pub fn slice_laws()
     ensures { λ _. ⌜ SliceLaws ⌝ }
+{}
+
+// The score after a list of calls is the opening one and the accepted real readings.
+pub fn score_laws()
+    ensures { λ _. ⌜ ScoreLaws ⌝ }
 {}

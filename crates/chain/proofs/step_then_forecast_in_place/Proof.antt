@@ -4,8 +4,7 @@ use Prim.Native.Nat.{ℕ}
 use lib.IntN.{ℤ}
 use Rattle.layout.specs.Bytes.{AreBytes}
 use Rattle.snapshot.specs.Snapshots.{decoded}
-use Rattle.snapshot.specs.Slices.{inPlaceCode}
-use Rattle.saving.specs.InPlace.{inPlaceStepBytes, inPlaceForecastCode, inPlaceForecast}
+use Rattle.saving.specs.InPlace.{rewriteCode, inPlaceStepBytes, inPlaceForecastCode, inPlaceForecast}
 use Rattle.traces.specs.Calls.{followed, InPlaceReading}
 use Rattle.chain.specs.Chains.{ForecastWithin}
 use Rattle.chain.proofs.Chains.{in-place}
@@ -24,7 +23,7 @@ module _ (d d′ : List ℕ) (y : ℤ) (h r : ℕ) (old v : ℤ) (e : d′ ≡ i
   value : v ≡ inPlaceForecast (inPlaceStepBytes d y) h old
   value = rw (g, e)
 
-  limit : AreBytes d → inPlaceCode d ≡ 0 → ForecastWithin (decoded d) (InPlaceReading (followed []) y) h r v
+  limit : AreBytes d → rewriteCode d ≡ 0 → ForecastWithin (decoded d) (InPlaceReading (followed []) y) h r v
   limit b z = rw (code, value) (in-place d (λ i. b i .fits) z y h old)
 
 returns : tie.Need-returns

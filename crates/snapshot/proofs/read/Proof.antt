@@ -15,7 +15,7 @@ returns c =
     rw (c .no-state .ensures, ← e, ne-eqb _ _ (c .before .if1 .taken))
 
 state-at-requires : tie.Need-state-at-requires
-state-at-requires c κs = accepted-room _ (sym (ap (λ (r : Scanned). r .code) (c .before .scan .ensures)) ∙ c .if1 .left)
+state-at-requires c κs = let r = accepted-room _ (sym (ap (λ (r : Scanned). r .code) (c .before .scan .ensures)) ∙ c .if1 .left) in (r .period, r .size)
 
 returns-2 : tie.Need-returns-2
 unfolding read

@@ -59,7 +59,7 @@ returns-3 c =
     let s = r .before .before .before .before .before .args .s in
     let z = sym (code-is r) ∙ c .before .if2 .left in
     let n = numbers-are r ∙ missed-is s (passes (r .before .before .before)) z in
-    rw (missing-accepted s z, c .store .ensures ∙ ap (stored s) n ∙ stored-missing s (facts (r .before .before .before)))
+    rw (missing-accepted s z, c .store .ensures ∙ ap (λ (u : Update). stored s u (s .score)) n ∙ stored-missing s (facts (r .before .before .before)))
 
 pub missing-spec : {M : Type 1} → statement M
 missing-spec =

@@ -1,16 +1,18 @@
-use mathlib.Core.Path.{_≡_, sym, ap, _∙_}
+use mathlib.Core.Path.{_≡_, sym, ap, ap₂, _∙_}
 use mir.Syntax.{w64}
+use mir.Val.{toZ, ofZ}
 use mir.Facts.{toZ-ofZ}
 use Rattle.integers.proofs.Difference.{back}
 use Rattle.models.specs.Models.{tiesToEven}
 use Rattle.state.specs.States.{check}
 use Rattle.state.specs.Valid.{Valid}
-use Rattle.state.proofs.Passing.{valid}
-use Rattle.ets.specs.Steps.{residualOf, stepCode}
+use Rattle.state.proofs.Passing.{valid, is-reading}
+use Rattle.ets.specs.Steps.{residualOf, squareAt, scoreAfter, stepCode}
 use Rattle.ets.specs.Updates.{numbersOf, corrections, readingUpdate, stored}
 use Rattle.ets.specs.declared.Update.{Update}
 use Rattle.ets.proofs.StepLaws.{step-accepted, step-rejected, step-unchecked, step-facts}
 use Rattle.ets.proofs.UpdateLaws.{numbers-in, read-code, read-is, stored-is}
+use Rattle.ets.proofs.ScoreLaws.{score-in, residual-within}
 use borrow.Author.Needs.{needs}
 use Rattle.ets.proofs.steps.step.Statement.{statement}
 use Rattle.ets.proofs.steps.step.Tie as tie
@@ -49,21 +51,41 @@ returns-2 c =
     let s = r .before .before .before .before .before .args in
     c .rejected-step2 .ensures ∙ sym (step-rejected (s .s) (s .y) (r .reading-update .result .code) (sym (code-is r)) (c .before .if2 .taken))
 
-store-requires : tie.Need-store-requires
-store-requires c κs =
+-- the residual of an accepted reading is the state's
+residual-is : (c : tie.After-struct-told) → let s = c .before .before .before .before .before .before .before .args in toZ w64 (ofZ w64 (c .before .before .reading-update .result .residual)) ≡ residualOf (s .s) (s .y)
+unfolding corrections
+residual-is c =
     let r = c .before .before in
     let s = r .before .before .before .before .before .args in
-    (facts (r .before .before .before) .bounded .index, step-facts (s .s) (s .y) (sym (code-is r) ∙ c .before .if2 .left) .room)
+    let z = sym (code-is r) ∙ c .before .if2 .left in
+    back w64 (r .reading-update .result .residual) (c .struct-told .given .1 .1 .1 .1 .0 .1) ∙ ap (λ (u : Update). u .residual) (numbers-are r ∙ read-is (s .s) (passes (r .before .before .before)) (s .y) z)
 
-returns-3 : tie.Need-returns-3
-unfolding corrections
-returns-3 c =
+score-after-requires : tie.Need-score-after-requires
+score-after-requires c κs =
+    let r = c .before .before in
+    let s = r .before .before .before .before .before .args in
+    let a = step-facts (s .s) (s .y) (sym (code-is r) ∙ c .before .if2 .left) in
+    (score-in (s .s) (a .valid), rw (residual-is c) (residual-within (s .s) (a .valid) (s .y) (is-reading (s .y) (a .reading))))
+
+-- its score is that of the step
+score-is : (c : tie.After-score-after) → let s = c .before .before .before .before .before .before .before .before .args in c .score-after .result ≡ scoreAfter (s .s .score) (squareAt (s .s) (s .y))
+score-is c = rw (residual-is (c .before), c .before .before .before .before .before .ties-to-even .ensures) at (c .score-after .ensures)
+
+store-requires : tie.Need-store-requires
+store-requires c κs =
     let r = c .before .before .before in
     let s = r .before .before .before .before .before .args in
-    let z = sym (code-is r) ∙ c .before .before .if2 .left in
+    (facts (r .before .before .before) .bounded .index, step-facts (s .s) (s .y) (sym (code-is r) ∙ c .before .before .if2 .left) .room)
+
+returns-3 : tie.Need-returns-3
+returns-3 c =
+    let q = c .before in
+    let r = q .before .before .before in
+    let s = r .before .before .before .before .before .args in
+    let z = sym (code-is r) ∙ q .before .before .if2 .left in
     let n = numbers-are r ∙ read-is (s .s) (passes (r .before .before .before)) (s .y) z in
-    let x = c .store .ensures ∙ ap (stored (s .s)) n ∙ stored-is (s .s) (facts (r .before .before .before)) (residualOf (s .s) (s .y)) in
-    rw (step-accepted (s .s) (s .y) z, x, back w64 (r .reading-update .result .residual) (c .before .struct-told .given .1 .1 .1 .1 .0 .1), n)
+    let x = c .store .ensures ∙ ap₂ (stored (s .s)) n (score-is q) ∙ stored-is (s .s) (facts (r .before .before .before)) (residualOf (s .s) (s .y)) (scoreAfter (s .s .score) (squareAt (s .s) (s .y))) in
+    rw (step-accepted (s .s) (s .y) z, x, residual-is (q .before))
 
 pub step-spec : {M : Type 1} → statement M
 step-spec =
@@ -77,5 +99,6 @@ step-spec =
     reading-update-requires
     (λ c κs. search needs)
     returns-2
+    score-after-requires
     store-requires
     returns-3)

@@ -4,6 +4,7 @@ use mathlib.Core.Path.{_≡_, sym, ap, ap₂, _∙_}
 use mathlib.Core.Bool.{Bool}
 use mathlib.Core.List.{List}
 use lib.IntN.{ℤ, _+ℤ_}
+use borrow.Author.Tests.{ne-eqb}
 use mir.Syntax.{w64}
 use mir.ValLaws.{toZ-ofZ}
 use Rattle.integers.proofs.Difference.{back}
@@ -17,24 +18,27 @@ use Rattle.snapshot.specs.Snapshots.{openCode, decoded}
 use Rattle.snapshot.proofs.Accepting.{one-snapshot}
 use Rattle.saving.specs.InPlace.{inPlaceForecastCode, inPlaceForecast}
 use Rattle.saving.specs.Facts.{aheadIn, Held, Found}
-use Rattle.saving.proofs.InPlaceSteps.{room-is, aheadValue, ahead-within, ahead-is, found, holds, unopened, opened, rejected, accepted-call}
+use Rattle.saving.proofs.InPlaceSteps.{room-in, aheadValue, ahead-within, ahead-is, found, holds, not-read, is-read}
 use borrow.Author.Needs.{needs}
 use Rattle.saving.proofs.in_place.forecast.Statement.{statement}
 use Rattle.saving.proofs.in_place.forecast.Tie as tie
 
--- the slice, the horizon, and the call on a state
+-- the lent number by the rejection of the call
+kept : (d : List ℕ) (h : ℕ) (old : ℤ) (n : ℕ) → n ≡ inPlaceForecastCode d h → (n ≡ 0 → ⊥) → old ≡ inPlaceForecast d h old
+unfolding inPlaceForecast
+kept d h old n e k = rw (← e, ne-eqb n 0 k)
+
+put : (d : List ℕ) (h : ℕ) (old : ℤ) → 0 ≡ inPlaceForecastCode d h → forecastOf (decoded d) h ≡ inPlaceForecast d h old
+unfolding inPlaceForecast
+put d h old e = rw (← e)
+
+-- the slice and the horizon
 module _ (c : tie.After-opened) where
   abbrev d : List ℕ
   d = c .before .before .args .snapshot .now
 
   abbrev h : ℕ
   h = c .before .before .args .horizon
-
-  abbrev code : State → ℕ
-  code s = forecastCode s h
-
-  abbrev value : State → ℤ
-  value s = forecastOf s h
 
   goes-by : Found d (c .opened .result)
   goes-by = found d (c .opened .result) (c .before .shared-slice-known .given) (c .opened .ensures)
@@ -83,33 +87,34 @@ module _ (c : tie.After-forecast-from) where
 
   told : (n : ℕ) → forecastFromCode (s .level) (s .phi) (s .trend) v (h o) ≡ n → n ≡ inPlaceForecastCode (d o) (h o)
   unfolding inPlaceForecastCode
-  told n z = opened (d o) _ (goes-by o) (code o) (q .if1 .left) n (sym z ∙ code-is)
+  told n z = is-read (d o) _ (goes-by o) (forecastCode s (h o)) (q .if1 .left) n (sym z ∙ code-is)
+
+unopened : (c : tie.Then1) → c .before .opened .result .code ≡ inPlaceForecastCode (d (c .before)) (h (c .before))
+unfolding inPlaceForecastCode
+unopened c =
+    not-read (d (c .before)) _ (goes-by (c .before)) (forecastCode (decoded (d (c .before))) (h (c .before))) (c .if1 .taken)
 
 returns : tie.Need-returns
-unfolding inPlaceForecastCode inPlaceForecast
-returns c =
-    let o = c .before in
-    let e = unopened (d o) _ (goes-by o) (code o) (c .if1 .taken) in
-    (e, rejected (code o) (λ s. s) (value o) (d o) _ _ e (c .if1 .taken) .1)
+returns c = let o = c .before in let e = unopened c in (e, kept (d o) (h o) _ _ e (c .if1 .taken))
 
 season-ahead-requires : tie.Need-season-ahead-requires
-season-ahead-requires c κs = room-is (d (c .before .before)) _ (held (c .before))
+season-ahead-requires c κs = let i = c .before in room-in (d (i .before)) _ (goes-by (i .before)) (i .if1 .left)
 
 returns-2 : tie.Need-returns-2
-unfolding inPlaceForecastCode inPlaceForecast forecastFrom
+unfolding forecastFrom
 returns-2 c =
     let f = c .before .before .before in
     let r = answer-rejected _ _ (c .before .k .given .0 .0) (sym (forecasted f) ∙ c .before .k .given .1) in
     let e = told f _ (r .0) in
-    (e, rejected (code (o f)) (λ s. s) (value (o f)) (d (o f)) _ _ e (λ n. r .1 (r .0 ∙ n)) .1)
+    (e, kept (d (o f)) (h (o f)) _ _ e (λ n. r .1 (r .0 ∙ n)))
 
 returns-3 : tie.Need-returns-3
-unfolding inPlaceForecastCode inPlaceForecast forecastFrom
+unfolding forecastFrom
 returns-3 c =
     let f = c .before .before .before in
     let r = answer-accepted _ _ (c .before .v .given .0 .0) (sym (forecasted f) ∙ c .before .v .given .1) in
     let e = told f 0 (r .0) in
-    (e, toZ-ofZ w64 (c .before .v .given .0 .0) (search needs) ∙ sym (r .1) ∙ value-is f (sym (code-is f) ∙ r .0) ∙ accepted-call (code (o f)) (λ s. s) (value (o f)) (d (o f)) _ e .1)
+    (e, toZ-ofZ w64 (c .before .v .given .0 .0) (search needs) ∙ sym (r .1) ∙ value-is f (sym (code-is f) ∙ r .0) ∙ put (d (o f)) (h (o f)) _ e)
 
 pub forecast-spec : {M : Type 1} → statement M
 forecast-spec =

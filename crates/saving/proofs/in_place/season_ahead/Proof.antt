@@ -11,7 +11,7 @@ use mir.Syntax.{w64}
 use mir.ValLaws.{toZ-ofZ}
 use borrow.Author.Tests.{eqb-false, le-leb}
 use Rattle.layout.specs.CommandTable.{seasonLength}
-use Rattle.layout.specs.Layout.{seasonAt, seasonIn}
+use Rattle.layout.specs.Layout.{seasonAt, scoredIn, seasonIn}
 use Rattle.snapshot.specs.Slices.{seasonValue}
 use Rattle.state.specs.declared.Answer.the-variants as answer-of
 use borrow.Author.Needs.{needs}
@@ -55,7 +55,7 @@ module _ (c : tie.After-season-value) where
   told =
       let a = c .before .before .before .args in
       let k = (a .p + a .h - 1) % a .m in
-      rw (le-leb (seasonAt k + seasonLength) (length (a .s .now)) (omega (arith, ahead (c .before)))) at (c .season-value .ensures)
+      rw (le-leb (seasonAt (scoredIn (a .s .now)) k + seasonLength) (length (a .s .now)) (omega (arith, ahead (c .before)))) at (c .season-value .ensures)
 
 returns-2 : tie.Need-returns-2
 returns-2 c =

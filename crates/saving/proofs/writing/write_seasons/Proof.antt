@@ -1,6 +1,7 @@
 -- `saving::writing::write_seasons` meets its contract: after k turns the commands of k places are written.
 use Prim.Native.Nat.{ℕ, _+_, _-_, _≤_, zero-le}
 use mathlib.Core.Path.{_≡_, refl, ap, _∙_}
+use mathlib.Core.Bool.{true}
 use native.Mathlib.Numerals.{add-one}
 use native.Mathlib.Omega.{arith}
 use lib.IntN.{pos}
@@ -16,7 +17,7 @@ use Rattle.saving.proofs.writing.write_seasons.Statement.{statement}
 use Rattle.saving.proofs.writing.write_seasons.Tie as tie
 
 abbrev Inv-loop : tie.InvT-loop
-Inv-loop d₀ m cells k₀ d k = (length d ≡ length d₀) × (k ≤ m) × (d ≡ sets d₀ (seasonAt 0) (seasonsBytes cells k))
+Inv-loop d₀ m cells k₀ d k = (length d ≡ length d₀) × (k ≤ m) × (d ≡ sets d₀ (seasonAt true 0) (seasonsBytes cells k))
 
 abbrev μ-loop : tie.MeasureT-loop
 μ-loop d₀ m cells k₀ d k = m - k
@@ -53,7 +54,7 @@ loop-again c =
     let e = rw (toZ-ofZ w64 z (record { sfits = w .before .before .v .given })) at (w .write-season .ensures) in (
       w .write-season .kept .0 ∙ l .inv .0,
       omega arith,
-      rw add-one (follow (a .d .now) (seasonAt 0) (seasonsBytes (a .cells .now) (l .k)) (seasonBytes (l .k) z) (l .d) _ (seasonAt (l .k)) (l .inv .2) e (ap (λ (n : ℕ). seasonAt 0 + n) (length-seasons (a .cells .now) (l .k)))),
+      rw add-one (follow (a .d .now) (seasonAt true 0) (seasonsBytes (a .cells .now) (l .k)) (seasonBytes (l .k) z) (l .d) _ (seasonAt true (l .k)) (l .inv .2) e (ap (λ (n : ℕ). seasonAt true 0 + n) (length-seasons (a .cells .now) (l .k)))),
     )
 
 same-length : tie.Need-same-length Inv-loop μ-loop

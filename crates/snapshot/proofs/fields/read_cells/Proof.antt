@@ -10,17 +10,17 @@ use Rattle.snapshot.proofs.fields.read_cells.Statement.{statement}
 use Rattle.snapshot.proofs.fields.read_cells.Tie as tie
 
 abbrev Inv-loop : tie.InvT-loop
-Inv-loop s m cells₀ k₀ cells k = (k ≤ m) × (cells ≡ cellsAt s k)
+Inv-loop s scored m cells₀ k₀ cells k = (k ≤ m) × (cells ≡ cellsAt s k)
 
 abbrev μ-loop : tie.MeasureT-loop
-μ-loop s m cells₀ k₀ cells k = m - k
+μ-loop s scored m cells₀ k₀ cells k = m - k
 
 loop-holds : tie.Need-loop-holds Inv-loop μ-loop
 unfolding cellsAt
 loop-holds c = (zero-le, c .before .pre .2)
 
 season-in-requires : tie.Need-season-in-requires Inv-loop μ-loop
-season-in-requires c κs = omega arith
+season-in-requires c κs = (c .before .before .before .pre .3, omega arith)
 
 cast-v : tie.Need-cast-v Inv-loop μ-loop
 cast-v c = omega arith

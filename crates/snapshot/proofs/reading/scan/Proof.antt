@@ -6,7 +6,7 @@ use lib.ListN.{length}
 use borrow.Author.Tests.{eq-eqb, ne-eqb}
 use Rattle.layout.specs.CommandTable.{modelLength}
 use Rattle.snapshot.specs.Snapshots.{scan}
-use Rattle.snapshot.proofs.Accepting.{model}
+use Rattle.snapshot.proofs.Accepting.{model, score}
 use borrow.Author.Needs.{needs}
 use Rattle.snapshot.proofs.reading.scan.Statement.{statement}
 use Rattle.snapshot.proofs.reading.scan.Tie as tie
@@ -25,15 +25,29 @@ returns-2 c =
     let m = c .before .before in
     rw (← (m .before .model-code .ensures), eq-eqb _ _ (m .if1 .left), ← (c .before .level-code .ensures), ne-eqb _ _ (c .if2 .taken))
 
-shared-slice-read-scan-seasons : tie.Need-shared-slice-read-scan-seasons
-shared-slice-read-scan-seasons c = omega (arith, room (c .before .before .before))
-
 returns-3 : tie.Need-returns-3
 unfolding scan
 returns-3 c =
-    let l = c .before .before in
+    let l = c .before .before .before in
     let m = l .before .before in
-    rw (← (m .before .model-code .ensures), eq-eqb _ _ (m .if1 .left), ← (l .before .level-code .ensures), eq-eqb _ _ (l .if2 .left)) (c .scan-seasons .ensures)
+    rw (← (m .before .model-code .ensures), eq-eqb _ _ (m .if1 .left), ← (l .before .level-code .ensures), eq-eqb _ _ (l .if2 .left), ← (c .before .score-code .ensures), ne-eqb _ _ (c .if3 .taken))
+
+shared-slice-read-scan-seasons : tie.Need-shared-slice-read-scan-seasons
+shared-slice-read-scan-seasons c = omega (arith, room (c .before .before .before .before .before .before))
+
+scan-seasons-requires : tie.Need-scan-seasons-requires
+scan-seasons-requires c κs =
+    let i = c .before in
+    let o = i .before .before in
+    (o .is-scored .ensures, λ e. score _ (sym (i .before .score-code .ensures) ∙ i .if3 .left) (sym (o .is-scored .ensures) ∙ e))
+
+returns-4 : tie.Need-returns-4
+unfolding scan
+returns-4 c =
+    let i = c .before .before in
+    let l = i .before .before .before in
+    let m = l .before .before in
+    rw (← (m .before .model-code .ensures), eq-eqb _ _ (m .if1 .left), ← (l .before .level-code .ensures), eq-eqb _ _ (l .if2 .left), ← (i .before .score-code .ensures), eq-eqb _ _ (i .if3 .left)) (c .scan-seasons .ensures)
 
 pub scan-spec : {M : Type 1} → statement M
 scan-spec =
@@ -43,6 +57,9 @@ scan-spec =
     returns
     (λ c κs. search needs)
     returns-2
-    shared-slice-read-scan-seasons
     (λ c κs. search needs)
-    returns-3)
+    (λ c κs. search needs)
+    returns-3
+    shared-slice-read-scan-seasons
+    scan-seasons-requires
+    returns-4)

@@ -7,7 +7,7 @@ use native.Mathlib.Numerals.{add-one}
 use native.Mathlib.Omega.{arith}
 use borrow.Author.Needs.{needs}
 use borrow.Author.Tests.{ne-eqb}
-use Rattle.layout.specs.Layout.{seasonAt}
+use Rattle.layout.specs.Layout.{seasonAt, scoredIn}
 use Rattle.snapshot.specs.Snapshots.{seasonCode, scanPosition, scanSeasons}
 use Rattle.snapshot.specs.declared.reading.Scanned.{Scanned}
 use Rattle.snapshot.proofs.reading.scan_seasons.Statement.{statement}
@@ -18,15 +18,15 @@ passes : (s : List ℕ) (k n : ℕ) (r : Scanned) → seasonCode s k ≡ 0 → s
 unfolding scanSeasons
 passes s k n r z = rw (z, add-one)
 
-stops : (s : List ℕ) (k n : ℕ) (r : Scanned) → (seasonCode s k ≡ 0 → ⊥) → scanSeasons s k (suc n) r ≡ record { code = seasonCode s k; offset = seasonAt k }
+stops : (s : List ℕ) (k n : ℕ) (r : Scanned) → (seasonCode s k ≡ 0 → ⊥) → scanSeasons s k (suc n) r ≡ record { code = seasonCode s k; offset = seasonAt (scoredIn s) k }
 unfolding scanSeasons
 stops s k n r z = rw (ne-eqb (seasonCode s k) 0 z)
 
 abbrev Inv-loop : tie.InvT-loop
-Inv-loop s m k₀ k = (k ≤ m) × (scanSeasons s k (m - k) (scanPosition s m) ≡ scanSeasons s 0 m (scanPosition s m))
+Inv-loop s scored m k₀ k = (k ≤ m) × (scanSeasons s k (m - k) (scanPosition s m) ≡ scanSeasons s 0 m (scanPosition s m))
 
 abbrev μ-loop : tie.MeasureT-loop
-μ-loop s m k₀ k = m - k
+μ-loop s scored m k₀ k = m - k
 
 loop-holds : tie.Need-loop-holds Inv-loop μ-loop
 loop-holds c = (zero-le, rw sub-zero)
@@ -37,7 +37,7 @@ returns c =
     let l = i .before .before .loop in
     let a = i .before .before .before .before .args in
     let e : a .m - l .k ≡ suc (a .m - (l .k + 1)) = omega arith in
-    rw (c .season-at .ensures, i .season-code .ensures) (sym (stops (a .s .now) (l .k) _ (scanPosition (a .s .now) (a .m)) (λ z. c .before .if1 .taken (i .season-code .ensures ∙ z))) ∙ (rw e at (l .inv .1)))
+    rw (c .season-at .ensures, i .before .before .before .before .pre .0, i .season-code .ensures) (sym (stops (a .s .now) (l .k) _ (scanPosition (a .s .now) (a .m)) (λ z. c .before .if1 .taken (i .season-code .ensures ∙ z))) ∙ (rw e at (l .inv .1)))
 
 add-k : tie.Need-add-k Inv-loop μ-loop
 add-k c = omega arith

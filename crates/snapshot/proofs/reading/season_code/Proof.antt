@@ -7,6 +7,7 @@ use borrow.Author.Tests.{eq-eqb, ne-eqb}
 use mir.Syntax.{w64}
 use Rattle.integers.proofs.Difference.{back}
 use Rattle.layout.specs.CommandTable.{isCommand, commandSize, seasonLength}
+use Rattle.layout.proofs.Sizes.{at-fits}
 use Rattle.snapshot.specs.Snapshots.{seasonCode}
 use Rattle.snapshot.proofs.Accepting.{due}
 use borrow.Author.Needs.{needs}
@@ -24,7 +25,19 @@ due-requires c κs = refl
 
 returns : tie.Need-returns
 unfolding seasonCode
-returns c = rw (← (c .before .before .season-at .ensures), ← (c .before .due .ensures), ne-eqb _ _ (c .if1 .taken))
+returns c = rw (← (c .before .before .before .before .pre), ← (c .before .before .season-at .ensures), ← (c .before .due .ensures), ne-eqb _ _ (c .if1 .taken))
+
+add-if2 : tie.Need-add-if2
+add-if2 c =
+    let x = c .before .before in
+    let a = x .before .before in
+    at-fits (a .args .scored) (a .args .k) 1 (x .season-at .ensures) (a .fits .k .fits) (omega arith)
+
+add-read-i64 : tie.Need-add-read-i64
+add-read-i64 c =
+    let x = c .before .before .before .before in
+    let a = x .before .before in
+    at-fits (a .args .scored) (a .args .k) 2 (x .season-at .ensures) (a .fits .k .fits) (omega arith)
 
 shared-slice-read-if2 : tie.Need-shared-slice-read-if2
 shared-slice-read-if2 c = omega (arith, room (c .before))
@@ -33,7 +46,7 @@ returns-2 : tie.Need-returns-2
 unfolding seasonCode
 returns-2 c =
     let i = c .before .before in
-    rw (← (i .before .before .season-at .ensures), ← (i .before .due .ensures), eq-eqb _ _ (i .if1 .left), ne-eqb _ _ (c .if2 .taken))
+    rw (← (i .before .before .before .before .pre), ← (i .before .before .season-at .ensures), ← (i .before .due .ensures), eq-eqb _ _ (i .if1 .left), ne-eqb _ _ (c .if2 .taken))
 
 read-i64-requires : tie.Need-read-i64-requires
 read-i64-requires c κs = omega (arith, room (c .before .before))
@@ -43,7 +56,7 @@ unfolding seasonCode
 returns-3 c =
     let r = c .before .before in
     let i = r .before .before .before in
-    rw (← (i .before .before .season-at .ensures), ← (i .before .due .ensures), eq-eqb _ _ (i .if1 .left), eq-eqb _ _ (r .before .if2 .left), ← (back w64 _ (r .read-i64 .ok) ∙ r .read-i64 .ensures), ← (c .before .in-range .ensures)) (c .unless .ensures)
+    rw (← (i .before .before .before .before .pre), ← (i .before .before .season-at .ensures), ← (i .before .due .ensures), eq-eqb _ _ (i .if1 .left), eq-eqb _ _ (r .before .if2 .left), ← (back w64 _ (r .read-i64 .ok) ∙ r .read-i64 .ensures), ← (c .before .in-range .ensures)) (c .unless .ensures)
 
 pub season-code-spec : {M : Type 1} → statement M
 season-code-spec =
@@ -52,10 +65,10 @@ season-code-spec =
     (λ c κs. search needs)
     due-requires
     returns
-    (λ c. search needs)
+    add-if2
     shared-slice-read-if2
     returns-2
-    (λ c. search needs)
+    add-read-i64
     read-i64-requires
     (λ c κs. search needs)
     (λ c κs. search needs)

@@ -11,7 +11,7 @@ unfolding inPlaceRead
 returns c = rw (c .no-state .ensures, ← (c .before .before .slice-code .ensures), ne-eqb _ _ (c .before .if1 .taken))
 
 state-at-requires : tie.Need-state-at-requires
-state-at-requires c κs = accepted-room _ (one-snapshot _ (sym (c .before .slice-code .ensures) ∙ c .if1 .left) .0)
+state-at-requires c κs = let r = accepted-room _ (one-snapshot _ (sym (c .before .slice-code .ensures) ∙ c .if1 .left) .0) in (r .period, r .size)
 
 returns-2 : tie.Need-returns-2
 unfolding inPlaceRead

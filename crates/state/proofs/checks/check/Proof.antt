@@ -7,14 +7,18 @@ use Rattle.state.proofs.checks.check.Tie as tie
 returns : tie.Need-returns
 unfolding check
 returns c =
-    let values = c .before .before .before in
+    let position = c .before .before .before in
+    let values = position .before .before .before in
     let parameters = values .before .before .before in
     let period = parameters .before in
     let model = period .before .before .before in
     rw (
-      c .first4 .ensures,
-      c .before .unless4 .ensures,
-      c .before .before .position-ok .ensures,
+      c .first5 .ensures,
+      c .before .unless5 .ensures,
+      c .before .before .score-ok .ensures,
+      position .first4 .ensures,
+      position .before .unless4 .ensures,
+      position .before .before .position-ok .ensures,
       values .first3 .ensures,
       values .before .unless3 .ensures,
       values .before .before .values-ok .ensures,
@@ -32,6 +36,9 @@ pub check-spec : {M : Type 1} → statement M
 check-spec =
     tie.close
     (tie.spec
+    (λ c κs. search needs)
+    (λ c κs. search needs)
+    (λ c κs. search needs)
     (λ c κs. search needs)
     (λ c κs. search needs)
     (λ c κs. search needs)

@@ -1,0 +1,56 @@
+-- Document 02, W-204: over a list of calls the score grows by the real readings that were accepted, and by the squares of their R(e).
+use Prim.Native.Nat.{ℕ, _+_}
+use mathlib.Core.Bool.{cond}
+use mathlib.Core.List.{List, [], _∷_, _++_}
+use mathlib.Core.Path.{_≡_}
+use lib.IntN.{ℤ}
+use lib.ListN.{length}
+use Rattle.state.specs.Rejections.{accepting}
+use Rattle.state.specs.Fixed.{isSentinel}
+use Rattle.state.specs.Scores.{sumOf}
+use Rattle.state.specs.declared.State.{State}
+use Rattle.ets.specs.Steps.{stepCode, squareAt}
+use Rattle.ets.specs.Batches.{takeCode, afterTake, batchCode}
+use Rattle.saving.specs.InPlace.{inPlaceStepCode}
+use Rattle.traces.specs.Calls.{Call, Reading, Missing, Switch, Batch, Forecast, Forecasts, InPlaceReading, InPlaceMissing, InPlaceSwitch, InPlaceForecast, sliceOf, result, after}
+use Rattle.traces.specs.Laws.{Passing}
+
+-- the square of an accepted real reading, of which n is the rejection; none of a rejected one
+abbrev pub squareIf : ℕ → State → ℤ → List ℕ
+squareIf n s y = accepting n (squareAt s y ∷ []) (λ (k : ℕ). [])
+
+-- of the readings of a batch until one is rejected: the sentinel is no real reading
+unfoldable pub batchSquares : State → List ℤ → List ℕ
+batchSquares s [] = []
+batchSquares s (y ∷ ys) =
+    accepting (takeCode s y) (cond (isSentinel y) [] (squareAt s y ∷ []) ++ batchSquares (afterTake s y) ys) (λ (k : ℕ). [])
+
+-- those of one call
+unfoldable pub squares : State → Call → List ℕ
+squares s (Reading y) = squareIf (stepCode s y) s y
+squares s Missing = []
+squares s Switch = []
+squares s (Batch ys cells) = accepting (batchCode s (length ys) (length cells)) (batchSquares s ys) (λ (k : ℕ). [])
+squares s (Forecast limit h) = []
+squares s (Forecasts limit h cells) = []
+squares s (InPlaceReading slice y) = squareIf (inPlaceStepCode (sliceOf s slice) y) s y
+squares s (InPlaceMissing slice) = []
+squares s (InPlaceSwitch slice) = []
+squares s (InPlaceForecast slice h old) = []
+
+-- and of a list of calls
+unfoldable pub allSquares : State → List Call → List ℕ
+allSquares s [] = []
+allSquares s (k ∷ ks) = squares s k ++ allSquares (result s k .state) ks
+
+unfoldable pub total : List ℕ → ℕ
+total [] = 0
+total (n ∷ ns) = n + total ns
+
+-- t has the score of s and the squares of so many readings
+pub record Scored (s t : State) (squares : List ℕ) : Type 0 where
+  pub readings : t .score .readings ≡ s .score .readings + length squares
+  pub sum : sumOf (t .score) ≡ sumOf (s .score) + total squares
+
+abbrev pub ScoreLaws : Type 0
+ScoreLaws = (s : State) → Passing s → (ks : List Call) → Scored s (after s ks) (allSquares s ks)
