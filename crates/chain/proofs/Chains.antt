@@ -1,13 +1,13 @@
 -- What a caller is answered is what demand 3 says of a list of two calls.
-use Prim.Native.Nat.{ℕ, _<_}
+use Prim.Native.Nat.{ℕ}
 use mathlib.Core.Path.{_≡_}
 use mathlib.Core.List.{List, [], _∷_}
 use lib.IntN.{ℤ}
-use lib.ListN.{getD}
 use Rattle.state.specs.Rejections.{answerCode, answerValue}
 use Rattle.state.specs.declared.State.{State}
 use Rattle.ets.specs.Steps.{step}
 use Rattle.forecasts.specs.Forecasts.{maxHorizon, forecast}
+use Rattle.layout.specs.Bytes.{AreBytes}
 use Rattle.snapshot.specs.Snapshots.{decoded}
 use Rattle.saving.specs.InPlace.{rewriteCode, inPlaceStepBytes, inPlaceForecastCode, inPlaceForecast}
 use Rattle.traces.specs.Calls.{followed, Reading, Forecast, InPlaceReading, InPlaceForecast, result}
@@ -20,7 +20,7 @@ pub directly : (s : State) (y : ℤ) (h : ℕ) → ForecastWithin s (Reading y) 
 unfolding Claim result
 directly s y h o = demand3 s o (Reading y ∷ Forecast maxHorizon h ∷ []) .1 .0
 
-pub in-place : (d : List ℕ) → ((i : ℕ) → getD d i 0 < 256) → rewriteCode d ≡ 0 → (y : ℤ) (h : ℕ) (old : ℤ) → ForecastWithin (decoded d) (InPlaceReading (followed []) y) h (inPlaceForecastCode (inPlaceStepBytes d y) h) (inPlaceForecast (inPlaceStepBytes d y) h old)
+pub in-place : (d : List ℕ) → AreBytes d → rewriteCode d ≡ 0 → (y : ℤ) (h : ℕ) (old : ℤ) → ForecastWithin (decoded d) (InPlaceReading (followed []) y) h (inPlaceForecastCode (inPlaceStepBytes d y) h) (inPlaceForecast (inPlaceStepBytes d y) h old)
 unfolding Claim result
 in-place d b z y h old o =
     let next = slice-laws .reading d (decoded d) (slice-laws .opening d b z) y .holds in

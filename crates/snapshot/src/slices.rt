@@ -17,6 +17,7 @@ use layout::SEASON_LENGTH;
 use layout::SUM_HIGH_AT;
 use layout::SUM_LOW_AT;
 use layout::season_at;
+use models::MAX_PERIOD;
 use state::Answer;
 use state::OUT_OF_PLACE;
 use state::Outcome;
@@ -109,7 +110,7 @@ pub fn season_value(snapshot: &[u8], k: u8) -> Answer
     Answer::Accepted(season_in(snapshot, scored, k))
 }
 
-// The score; all 0 where there is no command 15 or the slice ends inside it.
+// The score; all 0 where there is no command 15 or the slice ends inside it. It reads the words itself, so that `score_in` has one caller, into which it is compiled.
 pub fn score_value(snapshot: &[u8]) -> Score
     ensures { λ r. ⌜ r ≡ scoreValue (now (snapshot .entry)) ⌝ }
 {
@@ -135,7 +136,7 @@ pub fn state_value(snapshot: &[u8]) -> State
         return no_state();
     }
     let m = snapshot[PERIOD_AT];
-    if 48 < m {
+    if MAX_PERIOD < m {
         return no_state();
     }
     if snapshot.len() < season_at(scored, m) + POSITION_LENGTH {

@@ -29,7 +29,7 @@ pub fn is_reading(y: i32) -> bool
     (-1_000_000 <= y) & (y <= 1_000_000)
 }
 
-// A residual that a reading can have: 65,536,000,000 and three values.
+// A residual that a reading can have: at most 65536 × 1,000,000 and three values of 2^40 each.
 pub fn is_residual(e: i64) -> bool
     ensures { λ r. ⌜ r ≡ isResidual e ⌝ }
 {

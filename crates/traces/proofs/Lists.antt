@@ -18,6 +18,7 @@ use Rattle.ets.specs.Batches.{run, preceded, halted, takeCode, afterTake, batch
 use Rattle.forecasts.specs.Forecasts.{maxHorizon, forecastCode, forecastOf, forecast}
 use Rattle.forecasts.proofs.ForecastLaws.{list-length}
 use Rattle.ets.proofs.Kept.{reading-typed, reading-kept, missing-kept}
+use Rattle.layout.specs.Bytes.{AreBytes}
 use Rattle.layout.specs.Layout.{scoredIn}
 use Rattle.snapshot.specs.Snapshots.{decoded}
 use Rattle.snapshot.specs.Slices.{inPlaceCode}
@@ -25,7 +26,7 @@ use Rattle.saving.specs.Encoding.{encoded}
 use Rattle.saving.specs.InPlace.{roomCode, rewriteCode, rejection, bytesAfter, inPlaceStepCode, inPlaceStepBytes, inPlaceMissingCode, inPlaceMissingBytes, inPlaceSwitchCode, inPlaceSwitchBytes, inPlaceForecastCode, inPlaceForecast}
 use Rattle.saving.proofs.InPlaceLaws.{in-place-encoded, room-encoded, in-place-is-direct}
 use Rattle.traces.specs.Calls.{followed, Reading, Missing, Switch, Forecast, InPlaceReading, InPlaceMissing, InPlaceSwitch, InPlaceForecast, horizon, Result, result}
-use Rattle.traces.specs.Laws.{AreBytes, filled, Passing, CallLaws, InPlaceLaws, Holds, ReadingLaw, MissingLaw, SwitchLaw, ForecastLaw, SliceLaws}
+use Rattle.traces.specs.Laws.{filled, Passing, CallLaws, InPlaceLaws, Holds, ReadingLaw, MissingLaw, SwitchLaw, ForecastLaw, SliceLaws}
 use Rattle.traces.proofs.Slices.{too-short}
 use Rattle.traces.proofs.Results.{by-code, Works, reads, misses, switches, takes, forecasts-one, forecasts-all, works, reading-code, missed-code, forecast-rejection, forecast-answer}
 
@@ -113,12 +114,12 @@ in-place-laws s w = record { reading = same-reading s w; missing = same-missing 
 -- ---- slices
 opening : (d : List ℕ) → AreBytes d → rewriteCode d ≡ 0 → Holds d (decoded d)
 opening d b z =
-    let h = in-place-is-direct .slice d (λ i. record { fits = b i }) (then-zero (inPlaceCode d) (roomCode d) z .0) in
+    let h = in-place-is-direct .slice d b (then-zero (inPlaceCode d) (roomCode d) z .0) in
     record { rewritable = z; state = refl; passing = record { typed = h .typed; passes = h .passes } }
 
 saved : (d : List ℕ) (s : State) → AreBytes d → Holds d s → scoredIn d ≡ true → d ≡ encoded s ++ []
 saved d s b w e =
-    let h = in-place-is-direct .slice d (λ i. record { fits = b i }) (then-zero (inPlaceCode d) (roomCode d) (w .rewritable) .0) in
+    let h = in-place-is-direct .slice d b (then-zero (inPlaceCode d) (roomCode d) (w .rewritable) .0) in
     sym (h .new e) ∙ ap encoded (w .state) ∙ sym (append-nil (encoded s))
 
 encoded-holds : (s : State) → Passing s → Holds (encoded s) s

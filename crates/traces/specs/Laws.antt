@@ -4,10 +4,11 @@ use mathlib.Core.Bool.{true, cond}
 use mathlib.Core.List.{List, []}
 use mathlib.Core.Path.{_≡_}
 use lib.IntN.{ℤ}
-use lib.ListN.{length, take, getD}
+use lib.ListN.{length, take}
 use Rattle.state.specs.States.{Typed, check}
 use Rattle.state.specs.declared.State.{State}
 use Rattle.forecasts.specs.Forecasts.{maxHorizon}
+use Rattle.layout.specs.Bytes.{AreBytes}
 use Rattle.layout.specs.Layout.{scoredIn}
 use Rattle.snapshot.specs.Snapshots.{decoded}
 use Rattle.snapshot.specs.Slices.{inPlaceCode}
@@ -70,9 +71,6 @@ pub record SwitchLaw (d : List ℕ) (s : State) : Type 0 where
 pub record ForecastLaw (d : List ℕ) (s : State) (h : ℕ) : Type 0 where
   pub code : inPlaceForecastCode d h ≡ inPlaceForecastCode (sliceOf s (followed [])) h
   pub number : (old : ℤ) → inPlaceForecast d h old ≡ inPlaceForecast (sliceOf s (followed [])) h old
-
-abbrev pub AreBytes : List ℕ → Type 0
-AreBytes d = (i : ℕ) → getD d i 0 < 256
 
 pub record SliceLaws : Type 0 where
   -- an accepted slice with room does, and with command 15 it is the slice that the list hands on

@@ -24,7 +24,7 @@ module _ (d d′ : List ℕ) (y : ℤ) (h r : ℕ) (old v : ℤ) (e : d′ ≡ i
   value = rw (g, e)
 
   limit : AreBytes d → rewriteCode d ≡ 0 → ForecastWithin (decoded d) (InPlaceReading (followed []) y) h r v
-  limit b z = rw (code, value) (in-place d (λ i. b i .fits) z y h old)
+  limit b z = rw (code, value) (in-place d b z y h old)
 
 returns : tie.Need-returns
 returns c =
