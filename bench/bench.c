@@ -13,7 +13,7 @@
 #include <time.h>
 
 static const struct calls proved = {"proved", forecaster_step, forecaster_missing, forecaster_forecast, bench_forecasts,
-                                    bench_weight, bench_batch};
+                                    bench_weight, bench_weight_groups, bench_batch};
 
 /* BUILDS is BUILD(gcc_O2) BUILD(gcc_O3) .., as bench/run has it */
 #define BUILD(name) extern const struct calls name##_calls;
@@ -23,10 +23,10 @@ BUILDS
 static const struct calls *const versions[] = {&proved, BUILDS};
 enum { VERSIONS = sizeof versions / sizeof *versions, READINGS = 4096, ROUNDS = 400 };
 
-enum call { STEP, MISSING, FORECAST, FORECASTS, WEIGHT, BATCH };
-static const char *const ours[] = {"forecaster_step", "forecaster_missing", "forecaster_forecast",
-                                   "bench_forecasts", "bench_weight",       "bench_batch"};
-static const char *const theirs[] = {"step", "missing", "forecast", "forecasts", "weight", "batch"};
+enum call { STEP, MISSING, FORECAST, FORECASTS, WEIGHT, WEIGHT_GROUPS, BATCH };
+static const char *const ours[] = {"forecaster_step", "forecaster_missing",  "forecaster_forecast", "bench_forecasts",
+                                   "bench_weight",    "bench_weight_groups", "bench_batch"};
+static const char *const theirs[] = {"step", "missing", "forecast", "forecasts", "weight", "weight_groups", "batch"};
 
 struct row {
     const char *name;
@@ -50,11 +50,13 @@ static const struct row rows[] = {
     EACH("forecast-512", FORECAST, 512),
     EACH("all-512", FORECASTS, 512),
     EACH("weight-512", WEIGHT, 512),
+    EACH("groups-512", WEIGHT_GROUPS, 512),
     EACH("batch", BATCH, 0),
     EVEN("step", STEP, 0),
     EVEN("forecast-512", FORECAST, 512),
     EVEN("all-512", FORECASTS, 512),
     EVEN("weight-512", WEIGHT, 512),
+    EVEN("groups-512", WEIGHT_GROUPS, 512),
     EVEN("batch", BATCH, 0),
     {"step-refused-5 0", STEP, 0, 0, 0, 5},
     {"step-refused-13 0", STEP, 0, 0, 0, 13},
@@ -91,7 +93,7 @@ static struct lent make(const struct row *r) {
 struct answer {
     uint8_t code;
     int64_t number;
-    uint64_t weight;
+    uint64_t weight, groups[48];
     size_t taken;
     int64_t cells[READINGS];
 };
@@ -112,6 +114,9 @@ static inline void call(const struct row *r, const struct calls *who, struct len
         break;
     case WEIGHT:
         a->code = who->weight(g->bytes, g->length, r->horizon, &a->weight);
+        break;
+    case WEIGHT_GROUPS:
+        a->code = who->weight_groups(g->bytes, g->length, r->horizon, a->groups, 48);
         break;
     case BATCH:
         a->code = who->batch(g->bytes, g->length, readings, READINGS, a->cells, READINGS, &a->taken);

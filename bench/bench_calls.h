@@ -18,4 +18,8 @@ uint8_t bench_forecasts(const uint8_t *snapshot, size_t length, uint32_t horizon
 /* The weight of a horizon into *weight, which stays as it was where refused. 11. */
 uint8_t bench_weight(const uint8_t *snapshot, size_t length, uint32_t horizon, uint64_t *weight);
 
+/* The squares of C that a weight is made of, by j modulo m (W-210), into the first m cells, or the first without season;
+ * nothing is written where refused. 11, 12. */
+uint8_t bench_weight_groups(const uint8_t *snapshot, size_t length, uint32_t horizon, uint64_t *cells, size_t room);
+
 #endif

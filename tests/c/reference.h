@@ -51,6 +51,9 @@ uint8_t ref_forecasts(const uint8_t *group, size_t length, uint32_t horizon, int
 /* The weight of a horizon into *weight. 11. */
 uint8_t ref_weight(const uint8_t *group, size_t length, uint32_t horizon, uint64_t *weight);
 
+/* The squares of C that a weight is made of, by j modulo m (W-210), into the first m cells, or the first. 11, 12. */
+uint8_t ref_weight_groups(const uint8_t *group, size_t length, uint32_t horizon, uint64_t *cells, size_t room);
+
 /* A batch from the group's state, which stays as it is: cell k gets the level after reading k. 12, then each reading's
  * 13, 14, 15, at the first of which it halts. *taken gets the readings taken, 0 where it was refused before the first. */
 uint8_t ref_batch(const uint8_t *group, size_t length, const int32_t *readings, size_t n, int64_t *levels, size_t room,

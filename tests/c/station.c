@@ -30,15 +30,15 @@ static void expect(int holds, const char *text) {
 }
 
 /* ---- the calls, and the refusals that each can give and has given */
-enum call { STEP, MISSING, SWITCH, FORECAST, BATCH, FORECASTS, WEIGHT, CALLS };
-static const char *const names[CALLS] = {"step", "missing", "switch", "forecast", "batch", "forecasts", "weight"};
+enum call { STEP, MISSING, SWITCH, FORECAST, BATCH, FORECASTS, WEIGHT, WEIGHT_GROUPS, CALLS };
+static const char *const names[CALLS] = {"step", "missing", "switch", "forecast", "batch", "forecasts", "weight", "weight groups"};
 #define BIT(code) (1u << (code))
 #define OF_A_GROUP (BIT(11) - BIT(2) + BIT(16) + BIT(17)) /* 2 to 10, 16 and 17 */
 #define REWRITTEN (OF_A_GROUP | BIT(12))                  /* an old group without room */
 #define OF_A_READING (BIT(13) | BIT(14) | BIT(15))
 static const unsigned refusals[CALLS] = {REWRITTEN | OF_A_READING, REWRITTEN | BIT(14) | BIT(15),        REWRITTEN,
                                          OF_A_GROUP | BIT(11),     OF_A_GROUP | BIT(12) | OF_A_READING, OF_A_GROUP | BIT(11) | BIT(12),
-                                         OF_A_GROUP | BIT(11)};
+                                         OF_A_GROUP | BIT(11),     OF_A_GROUP | BIT(11) | BIT(12)};
 static unsigned long given[CALLS][256];
 
 static int answered(enum call call, uint8_t got, uint8_t code) {
@@ -209,6 +209,25 @@ static int try_weight(const uint8_t *bytes, size_t length, uint32_t horizon) {
     return got;
 }
 
+/* Where the groups are given, 2^32 and they are the weight of the same horizon. */
+static int try_groups(const uint8_t *bytes, size_t length, uint32_t horizon, size_t room) {
+    int64_t found[MOST_CELLS];
+    uint64_t expected[MOST_CELLS], sum = UINT64_C(1) << 32, weight = 0;
+    const uint8_t *at = lend(groups, bytes, length), *theirs = lend(reference_groups, bytes, length);
+    uint64_t *cells = (uint64_t *)untouched(found, room);
+    memcpy(expected, found, room * sizeof *expected);
+    uint8_t code = ref_weight_groups(theirs, length, horizon, expected, room);
+    int got = answered(WEIGHT_GROUPS, bench_weight_groups(at, length, horizon, cells, room), code);
+    expect_bytes(at, bytes, length);
+    expect_bytes(cells, expected, room * sizeof *expected);
+    if (got)
+        return got;
+    for (int k = 0; k < (bytes[2] ? bytes[2] : 1); k++)
+        sum += cells[k];
+    expect(bench_weight(at, length, horizon, &weight) == 0 && weight == sum, "2^32 and the groups are not the weight");
+    return got;
+}
+
 /* all calls on bytes that each must refuse by the same number, and leave as they are */
 static void all_refuse(const uint8_t *bytes, size_t length, int code) {
     uint8_t copy[MOST];
@@ -222,6 +241,7 @@ static void all_refuse(const uint8_t *bytes, size_t length, int code) {
     expect(try_batch(bytes, length, readings, 2, 2) == code, "a batch was not refused by this number");
     expect(try_forecasts(bytes, length, 2, 2) == code, "a call for all horizons was not refused by this number");
     expect(try_weight(bytes, length, 1) == code, "a weight was not refused by this number");
+    expect(try_groups(bytes, length, 1, 48) == code, "the groups of a weight were not refused by this number");
 }
 
 /* the calls that only read a group, on one that each must take */
@@ -231,6 +251,7 @@ static void all_read(const uint8_t *bytes, size_t length) {
     expect(try_batch(bytes, length, readings, 3, 3) == 0, "a batch was refused");
     expect(try_forecasts(bytes, length, 7, 7) == 0, "a call for all horizons was refused");
     expect(try_weight(bytes, length, 7) == 0, "a weight was refused");
+    expect(try_groups(bytes, length, 7, 48) == 0, "the groups of a weight were refused");
 }
 
 /* one of the calls that write the group */
@@ -320,6 +341,9 @@ static void listed_cases(void) {
     n = ref_group(&st, bytes);
     at = lend(groups, bytes, n);
     expect(bench_weight(at, n, 3, &weight) == 0 && weight == UINT64_C(6979321856), "T8: the weight of 3");
+    uint64_t by_index[3] = {7, 7, 7};
+    expect(bench_weight_groups(at, n, 3, by_index, 3) == 0 && by_index[0] == UINT64_C(2415919104) && by_index[1] == 268435456 && by_index[2] == 7,
+           "T8: the groups of its weight");
     expect(forecaster_step(at, n, 5, &number) == 0, "the step");
     st.l = 65536, st.s[0] = 196608, st.p = 1, st.count = 1, st.readings = 1, st.low = 16;
     expect_state(at, st);
@@ -777,6 +801,16 @@ static void operands(void) {
             expect(try_forecasts(bytes, n, h, room) == code, "horizon and room");
             expect(try_weight(bytes, n, h) == (code == 12 ? 0 : code), "a weight's horizon");
         }
+    what = "the groups of a weight";
+    for (int i = 0; i < MODELS; i++)
+        for (int m = seasonal(models[i]) ? 2 : 0; m <= (seasonal(models[i]) ? 48 : 0); m++)
+            for (uint32_t h = 0; h <= 514; h += h < 100 ? 1 : 23)
+                for (size_t room = (size_t)(m > 2 ? m - 2 : 0); room <= (size_t)m + 2; room++) {
+                    int code = h == 0 || h > 512 ? FORECASTER_BAD_HORIZON : room < (size_t)(m ? m : 1) ? 12 : 0;
+                    st = plain(models[i], m);
+                    n = ref_group(&st, bytes);
+                    expect(try_groups(bytes, n, h, room) == code, "horizon and room");
+                }
     what = "a batch";
     const int32_t mark = INT32_MIN;
     const int32_t batch[] = {5, mark, -7, 1000000, 1000001, 3, mark};
@@ -896,6 +930,7 @@ static void damaged_groups(int rounds) {
             uint32_t horizon = (uint32_t)(pick(0, 9) == 0 ? pick(0, 600) : pick(1, 60));
             try_forecasts(bytes, n, horizon, pick(0, 9) == 0 ? (size_t)pick(0, 600) : horizon);
             try_weight(bytes, n, (uint32_t)pick(0, 600));
+            try_groups(bytes, n, (uint32_t)pick(0, 600), pick(0, 9) == 0 ? (size_t)pick(0, 50) : 48);
         }
         switch (pick(0, 4)) {
         case 0:

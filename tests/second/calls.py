@@ -1,5 +1,5 @@
 """Calls that no stream reaches, for the program `calls`: states handed in directly, batches, all horizons, the bedside
-display's forecasts, weights, short slices, groups read from a slice. Nothing here is random.
+display's forecasts, weights, also by time of day, short slices, groups read from a slice. Nothing here is random.
 
 The program reads records and writes a line for each. A record is an operation's byte, the state that the call is made on
 (none where a group is read), and the call's operands; low byte first, signed numbers in two's complement, lengths of 32 bits.
@@ -17,6 +17,7 @@ The program reads records and writes a line for each. A record is an operation's
     11, 12         6 and 7 on the bedside display (W-206)
     13 switch      to ties to even (W-211)
     14 in place    the same on a lent slice: a length and as many bytes; an old group becomes a new one there (W-204)
+    15 groups      of a weight (W-210): the length of the unsigned cells lent, for a horizon
 
 A state is a length and as many season cells of 64 bits, the others being 0; 1 where command 18 opened it, or 0, model and m, a byte each; A, B, G, F of 32 bits;
 l and b of 64 bits; p, a byte; count, the score's readings, high and low word (W-204), of 64 bits each.
@@ -34,7 +35,7 @@ import forecaster as f
 from forecaster import State
 from streams import C, COUNTS, MODELS, PARAMETERS, TO_EVEN, V, VALUES, WORD32, WORD64, cells, edge_gains, edge_scores, nominal, old, opened, scored
 
-READ, CHECK, STEP, MISSING, BATCH, FORECAST, FORECASTS, WEIGHT, VARIANCE, SAVE, DISPLAY_FORECAST, DISPLAY_FORECASTS, SWITCH, SWITCH_IN_PLACE = range(1, 15)
+READ, CHECK, STEP, MISSING, BATCH, FORECAST, FORECASTS, WEIGHT, VARIANCE, SAVE, DISPLAY_FORECAST, DISPLAY_FORECASTS, SWITCH, SWITCH_IN_PLACE, WEIGHT_GROUPS = range(1, 16)
 UNTOUCHED = 77
 
 
@@ -154,6 +155,11 @@ class Script:
     def weight(self, h):
         self.play(WEIGHT, numbers(4, h), attempted(lambda: [f.weight(self.state, h)]))
 
+    def weight_groups(self, h, room):
+        filled = [UNTOUCHED] * room
+        found = attempted(lambda: f.weight_groups(self.state, h, filled) or [])
+        self.play(WEIGHT_GROUPS, numbers(4, room, h), found + filled)
+
     def variance(self, h, sigma2):
         self.play(VARIANCE, numbers(4, h, sigma2), attempted(lambda: f.variance(self.state, h, sigma2)))
 
@@ -183,6 +189,7 @@ class Script:
         self.forecasts(3, 4)
         self.weight(3)
         self.variance(3, 5)
+        self.weight_groups(3, 50)
         self.save(600)
 
 
@@ -251,6 +258,7 @@ def first_fault(t):
             t.forecasts(h, 0)
         t.weight(513)
         t.variance(513, 0)
+        t.weight_groups(513, 0)
         t.save(0)
 
 
@@ -353,6 +361,25 @@ def horizons(t):
     t.weight(3)
     t.use(State(model=4, m=2, A=16384, G=32768, s=cells(65536, -65536)))
     t.weight(3)
+
+
+def weights_by_index(t):
+    """W-210: the groups of a weight for every model by both rules, seasons that divide the horizon and that do not, longer and
+    shorter than it; cells too few, just enough and more; 11 before 12. The largest sums."""
+    for model in MODELS + TO_EVEN:
+        for m in (2, 7, 48) if model & 4 else (0,):
+            t.use(nominal(model, m))
+            least = m or 1
+            for h in (1, 2, m + 1, m + 2, 100, 512):
+                t.weight_groups(h, least)
+            for h in (0, 1, 513):
+                for room in (0, least - 1, least + 2):
+                    t.weight_groups(h, room)
+    for model, m, F in ((1, 0, 65536), (2, 0, 65535), (5, 2, 65536), (5, 48, 65536), (6, 3, 65535)):
+        t.use(opened(State(model=model, m=m, A=65536, B=65536, G=65536 if m else 0, F=F)))
+        t.weight_groups(512, 48)
+    t.use(State(model=4, m=2, A=16384, G=32768, s=cells(65536, -65536)))
+    t.weight_groups(3, 3)
 
 
 def groups(t):
@@ -504,7 +531,7 @@ def lent(t):
 
 def script():
     t = Script()
-    for part in (refused_states, first_fault, steps, batches, horizons, groups, outside_region, rules, scores, lent):
+    for part in (refused_states, first_fault, steps, batches, horizons, weights_by_index, groups, outside_region, rules, scores, lent):
         part(t)
     return t
 

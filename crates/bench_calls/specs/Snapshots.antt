@@ -8,6 +8,7 @@ use Rattle.forecasts.specs.Forecasts.{forecastsCode, forecastCells}
 use Rattle.snapshot.specs.Snapshots.{decoded}
 use Rattle.snapshot.specs.Slices.{inPlaceCode}
 use Rattle.weights.specs.Weights.{weight, weightCode, weightValue}
+use Rattle.weights.specs.Groups.{weightGroupsCode, weightGroupCells}
 
 -- a batch: the number returned, the readings taken, and the cells; the snapshot is read and not rewritten
 unfoldable pub batchCode : List ℕ → List ℤ → ℕ → ℕ
@@ -32,3 +33,10 @@ inPlaceWeightCode d h = inPlaceCode d then weightCode (weight (decoded d) h)
 
 unfoldable pub inPlaceWeight : List ℕ → ℕ → ℕ → ℕ
 inPlaceWeight d h old = accepting (inPlaceCode d) (weightValue (weight (decoded d) h) old) (λ (n : ℕ). old)
+
+-- the groups of a weight: the number returned and the cells
+unfoldable pub inPlaceGroupsCode : List ℕ → ℕ → ℕ → ℕ
+inPlaceGroupsCode d h room = inPlaceCode d then weightGroupsCode (decoded d) h room
+
+unfoldable pub inPlaceGroupCells : List ℕ → ℕ → List ℕ → List ℕ
+inPlaceGroupCells d h cells = accepting (inPlaceCode d) (weightGroupCells (decoded d) h cells) (λ (n : ℕ). cells)

@@ -5,10 +5,11 @@ use forecasts::forecasts;
 use snapshot::slices::read;
 use state::code_of;
 use weights::Weight;
+use weights::groups::weight_groups;
 use weights::variances::weight;
 ghost use mathlib.Core.Path.{_≡_};
 ghost use lib.ListN.{length};
-ghost use Rattle.bench_calls.specs.Snapshots.{batchCode, batchTaken, batchCells, allCode, allCells, inPlaceWeightCode, inPlaceWeight};
+ghost use Rattle.bench_calls.specs.Snapshots.{batchCode, batchTaken, batchCells, allCode, allCells, inPlaceWeightCode, inPlaceWeight, inPlaceGroupsCode, inPlaceGroupCells};
 
 // The readings taken are told in every case: 0 where a check before the first of them stops the batch.
 #[no_mangle]
@@ -71,4 +72,19 @@ pub extern "C" fn bench_weight(snapshot: &[u8], horizon: u32, value: &mut u64) -
         }
         Weight::Rejected(n) => n,
     }
+}
+
+#[no_mangle]
+pub extern "C" fn bench_weight_groups(snapshot: &[u8], horizon: u32, cells: &mut [u64]) -> u8
+    ensures code { λ r. ⌜ r ≡ inPlaceGroupsCode (now (snapshot .entry)) horizon (length (now (cells .entry))) ⌝ }
+    ensures buffer { λ _. ⌜ now (cells .exit) ≡ inPlaceGroupCells (now (snapshot .entry)) horizon (now (cells .entry)) ⌝ }
+{
+    let opened = read(snapshot);
+    let outcome = opened.outcome;
+    let code = code_of(outcome);
+    if code != 0 {
+        return code;
+    }
+    let state = opened.state;
+    code_of(weight_groups(state, horizon, cells))
 }

@@ -1,5 +1,6 @@
 // The calls, and what each answers: a rejection's number or 0, and then what the call gives.
 use super::input::first_bytes;
+use super::input::first_numbers;
 use super::input::first_values;
 use super::input::next_i32;
 use super::input::next_readings;
@@ -9,6 +10,7 @@ use super::input::next_u32;
 use super::printing::print_bytes;
 use super::printing::print_code;
 use super::printing::print_number;
+use super::printing::print_numbers;
 use super::printing::print_signed;
 use super::printing::print_state;
 use super::printing::print_values;
@@ -118,6 +120,13 @@ fn play_cells(operation: u8, s: State) {
     print_values(values);
 }
 
+fn play_weight_groups(s: State) {
+    let mut space = [77u64; 520];
+    let cells = first_numbers(&mut space, next_size());
+    print_outcome(weights::groups::weight_groups(s, next_u32(), cells));
+    print_numbers(cells);
+}
+
 fn play_save(s: State) {
     let mut cells = [77u8; 1024];
     let bytes = first_bytes(&mut cells, next_size());
@@ -154,6 +163,7 @@ pub fn play(operation: u8) {
         11 => print_answer(forecasts::display_forecast(next_state(), next_u32())),
         13 => play_switch(next_state()),
         14 => play_switch_in_place(),
+        15 => play_weight_groups(next_state()),
         _ => play_cells(operation, next_state()),
     }
 }

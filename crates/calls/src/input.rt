@@ -70,6 +70,14 @@ pub fn first_values<'a>(values: &'a mut [i64], n: usize) -> &'a mut [i64] {
     }
 }
 
+pub fn first_numbers<'a>(numbers: &'a mut [u64], n: usize) -> &'a mut [u64] {
+    if n <= numbers.len() {
+        &mut numbers[..n]
+    } else {
+        numbers
+    }
+}
+
 // The season cells of a record, and 0 after them.
 fn next_season() -> [i64; 48] {
     let n = next_size();

@@ -32,6 +32,14 @@ pub fn print_values(values: &[i64]) {
     }
 }
 
+pub fn print_numbers(numbers: &[u64]) {
+    let mut i = 0;
+    while i < numbers.len() {
+        print_number(numbers[i]);
+        i += 1;
+    }
+}
+
 pub fn print_bytes(bytes: &[u8]) {
     let mut i = 0;
     while i < bytes.len() {

@@ -1,4 +1,4 @@
--- Document 01, "Station cases": T1 to T12 as one table, T1's numbers by the other rounding rule (document 02, W-211), and the score (document 02, W-204). The function `cases::station_cases` promises it.
+-- Document 01, "Station cases": T1 to T12 as one table, T1's numbers by the other rounding rule (document 02, W-211), the score (document 02, W-204), and the groups of a weight (document 02, W-210). The function `cases::station_cases` promises it.
 use Prim.Native.Nat.{ℕ, _+_, _-_, _^_}
 use mathlib.Core.Path.{_≡_}
 use mathlib.Core.Bool.{true, false}
@@ -12,6 +12,7 @@ use Rattle.state.specs.declared.Answer.the-variants as answer-of
 use Rattle.ets.specs.Steps.{stepCode, step, missing}
 use Rattle.forecasts.specs.Forecasts.{forecastCode, forecast}
 use Rattle.weights.specs.Weights.{weight, variance}
+use Rattle.weights.specs.Groups.{weightGroupsCode, weightGroupCells}
 use Rattle.weights.specs.declared.Weight.the-variants as weight-of
 use Rattle.weights.specs.declared.Variance.the-variants as variance-of
 
@@ -115,8 +116,15 @@ table =
     ∷ row 204 (check (scored 4096 4096 1 1)) 17
     ∷ row 204 (check (scored 1 2 0 0)) 17
     ∷ row 204 (check (scored (2 ^ 48 + 1) 0 0 1)) 10
+    -- W-210: of T8's weight j = 2 is in group 0 and j = 1 in group 1, of T7's both are in the one group; horizon 1 has no j. 11 comes before 12.
+    ∷ row 210 (weightGroupCells seasonal 3 (7 ∷ 7 ∷ 7 ∷ [])) (2415919104 ∷ 268435456 ∷ 7 ∷ [])
+    ∷ row 210 (weightGroupCells straight 3 (7 ∷ 7 ∷ [])) (6710886400 ∷ 7 ∷ [])
+    ∷ row 210 (weightGroupCells seasonal 1 (7 ∷ 7 ∷ 7 ∷ [])) (0 ∷ 0 ∷ 7 ∷ [])
+    ∷ row 210 (weightGroupsCode seasonal 513 1) 11
+    ∷ row 210 (weightGroupsCode seasonal 512 1) 12
+    ∷ row 210 (weightGroupsCode straight 512 1) 0
     ∷ []
 
 -- so many comparisons for each case
 abbrev pub compared : List ℕ
-compared = 1 ∷ 1 ∷ 1 ∷ 1 ∷ 2 ∷ 2 ∷ 2 ∷ 2 ∷ 3 ∷ 3 ∷ 4 ∷ 4 ∷ 5 ∷ 5 ∷ 5 ∷ 5 ∷ 6 ∷ 7 ∷ 8 ∷ 9 ∷ 9 ∷ 10 ∷ 10 ∷ 11 ∷ 11 ∷ 11 ∷ 11 ∷ 11 ∷ 12 ∷ 211 ∷ 211 ∷ 211 ∷ 211 ∷ 211 ∷ 211 ∷ 211 ∷ 204 ∷ 204 ∷ 204 ∷ 204 ∷ 204 ∷ 204 ∷ 204 ∷ 204 ∷ []
+compared = 1 ∷ 1 ∷ 1 ∷ 1 ∷ 2 ∷ 2 ∷ 2 ∷ 2 ∷ 3 ∷ 3 ∷ 4 ∷ 4 ∷ 5 ∷ 5 ∷ 5 ∷ 5 ∷ 6 ∷ 7 ∷ 8 ∷ 9 ∷ 9 ∷ 10 ∷ 10 ∷ 11 ∷ 11 ∷ 11 ∷ 11 ∷ 11 ∷ 12 ∷ 211 ∷ 211 ∷ 211 ∷ 211 ∷ 211 ∷ 211 ∷ 211 ∷ 204 ∷ 204 ∷ 204 ∷ 204 ∷ 204 ∷ 204 ∷ 204 ∷ 204 ∷ 210 ∷ 210 ∷ 210 ∷ 210 ∷ 210 ∷ 210 ∷ []

@@ -7,6 +7,7 @@ use native.Mathlib.Omega.{arith}
 use lib.Dec.{eqb}
 use lib.IntN.{ℤ}
 use lib.ListN.{length, length-append}
+use Rattle.integers.specs.Totals.{total}
 use Rattle.state.specs.Rejections.{accepting}
 use Rattle.state.specs.Fixed.{isSentinel}
 use Rattle.state.specs.Switching.{switched}
@@ -16,7 +17,7 @@ use Rattle.ets.specs.Batches.{run, preceded, halted, takeCode, afterTake, batch
 use Rattle.ets.proofs.ScoreLaws.{readings-after, sum-after}
 use Rattle.traces.specs.Calls.{Call, Result, result, after}
 use Rattle.traces.specs.Laws.{Passing}
-use Rattle.traces.specs.Scores.{batchSquares, squares, allSquares, total, Scored, ScoreLaws}
+use Rattle.traces.specs.Scores.{batchSquares, squares, allSquares, Scored, ScoreLaws}
 use Rattle.traces.proofs.Results.{by-code, Works, reads, misses, switches, takes, forecasts-one, forecasts-all, works}
 use Rattle.traces.proofs.Lists.{call-laws}
 

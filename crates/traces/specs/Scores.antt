@@ -5,6 +5,7 @@ use mathlib.Core.List.{List, [], _∷_, _++_}
 use mathlib.Core.Path.{_≡_}
 use lib.IntN.{ℤ}
 use lib.ListN.{length}
+use Rattle.integers.specs.Totals.{total}
 use Rattle.state.specs.Rejections.{accepting}
 use Rattle.state.specs.Fixed.{isSentinel}
 use Rattle.state.specs.Scores.{sumOf}
@@ -42,10 +43,6 @@ squares s (InPlaceForecast slice h old) = []
 unfoldable pub allSquares : State → List Call → List ℕ
 allSquares s [] = []
 allSquares s (k ∷ ks) = squares s k ++ allSquares (result s k .state) ks
-
-unfoldable pub total : List ℕ → ℕ
-total [] = 0
-total (n ∷ ns) = n + total ns
 
 -- t has the score of s and the squares of so many readings
 pub record Scored (s t : State) (squares : List ℕ) : Type 0 where

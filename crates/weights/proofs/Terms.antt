@@ -3,7 +3,7 @@ use Prim.Native.Nat.{ℕ, zero, suc, _+_, _-_, _*_, _%_, _≤_, _<_}
 use mathlib.Core.Path.{_≡_, refl, ap}
 use mathlib.Core.Bool.{Bool, true, false, cond, _&&_}
 use native.Mathlib.Omega.{arith}
-use native.Mathlib.Nat.{mul-le-mul, mod-lt, mod-zero, mod-self, mod-eq-of-lt, suc-mod}
+use native.Mathlib.Nat.{mul-le-mul, mod-lt, mod-zero, mod-self, mod-eq-of-lt, suc-mod, zero-mod, mod-le}
 use lib.Dec.{eqb, ltb}
 use borrow.Author.Tests.{eqb-true, eqb-false, le-ltb}
 use Rattle.state.specs.Fixed.{shareNat}
@@ -11,13 +11,15 @@ use Rattle.models.specs.Models.{trendOf, hasSeason, tiesToEven}
 use Rattle.state.specs.Valid.{Valid}
 use Rattle.state.specs.declared.State.{State}
 use Rattle.weights.specs.Weights.{dampingSum, trendTerm, seasonTerm, coefficient, squares, weightOf}
+use Rattle.weights.specs.Groups.{groupCount}
+use Rattle.weights.specs.Facts.{At}
 
 -- a product of two bounded numbers
 pub product-le : (m n : ℕ) {a b : ℕ} → a ≤ m → b ≤ n → a * b ≤ m * n
 product-le m n h k = mul-le-mul h k
 
 -- the next P, where the trend is damped; nothing else uses it
-pub damping-next : (even : Bool) (t F n : ℕ) {j p q : ℕ} → suc n ≡ j → p ≡ cond (ltb t 2) 0 (dampingSum even F n) → q ≡ cond (ltb t 2) 0 (shareNat even F (p + 65536)) → q ≡ cond (ltb t 2) 0 (dampingSum even F j)
+damping-next : (even : Bool) (t F n : ℕ) {j p q : ℕ} → suc n ≡ j → p ≡ cond (ltb t 2) 0 (dampingSum even F n) → q ≡ cond (ltb t 2) 0 (shareNat even F (p + 65536)) → q ≡ cond (ltb t 2) 0 (dampingSum even F j)
 unfolding dampingSum
 damping-next even t F n {j} {p} {q} e = rw (← e) (go (ltb t 2))
   where
@@ -25,7 +27,7 @@ damping-next even t F n {j} {p} {q} e = rw (← e) (go (ltb t 2))
     go true h k = k
     go false h k = rw (← h) k
 
-pub damping-start : (even : Bool) (t F : ℕ) → 0 ≡ cond (ltb t 2) 0 (dampingSum even F 0)
+damping-start : (even : Bool) (t F : ℕ) → 0 ≡ cond (ltb t 2) 0 (dampingSum even F 0)
 unfolding dampingSum
 damping-start even t F = go (ltb t 2)
   where
@@ -39,7 +41,7 @@ damped-alone even (suc zero) a b d = refl
 damped-alone even (suc (suc t)) a b d = rw (le-ltb (suc (suc t)) 2 (omega arith))
 
 -- the next remainder, without a division
-pub remainder-next : (m n : ℕ) {j k r : ℕ} → suc n ≡ j → k ≡ n % m → r ≡ cond (eqb (k + 1) m) 0 (k + 1) → r ≡ j % m
+remainder-next : (m n : ℕ) {j k r : ℕ} → suc n ≡ j → k ≡ n % m → r ≡ cond (eqb (k + 1) m) 0 (k + 1) → r ≡ j % m
 remainder-next m n j k r = rw (← j, r, k) (go (eqb (n % m + 1) m) refl)
   where
     less : (m : ℕ) → (n % m + 1 ≡ m → ⊥) → n % m + 1 ≡ suc n % m
@@ -54,30 +56,71 @@ remainder-next m n j k r = rw (← j, r, k) (go (eqb (n % m + 1) m) refl)
         rw (suc-mod n m, w, mod-self m)
     go false e = less m (eqb-false _ _ e)
 
--- without season G is 0, so the remainder alone decides
-left-out : (s : State) → Valid s → (t u : Bool) → hasSeason (s .model) ≡ t → cond u (s .gamma) 0 ≡ cond (t && u) (s .gamma) 0
-left-out s v true u h = refl
-left-out s v false true h = v .no-season h .gamma
-left-out s v false false h = refl
+-- ---- what a loop holds when it comes by the coefficient of j, from what it held at j − 1
+pub at-start : (s : State) {even : Bool} {t : ℕ} → even ≡ tiesToEven (s .model) → t ≡ trendOf (s .model) → At s even t 0 0 0
+at-start s {t = t} e h =
+    record {
+      most = omega arith;
+      small = omega arith;
+      rule = e;
+      trend-is = h;
+      damping = damping-start (tiesToEven (s .model)) t (s .phi);
+      remainder = rw (zero-mod (groupCount s));
+    }
 
--- a coefficient from the trend t, P and the remainder k of j
-pub coefficient-is : (s : State) (j : ℕ) {even : Bool} {t p k x y : ℕ}
+pub at-next : (s : State) (n : ℕ) {even : Bool} {t j p k q r : ℕ}
+    → suc n ≡ j
+    → j ≤ 512
+    → At s even t n p k
+    → (q ≡ cond (ltb t 2) 0 (shareNat even (s .phi) (p + 65536))) × (q ≤ p + 65536)
+    → (r ≡ cond (eqb (k + 1) (groupCount s)) 0 (k + 1)) × (r ≤ k + 1)
+    → At s even t j q r
+at-next s n {even} {t} e m a q r =
+    record {
+      most = m;
+      small = omega (arith, a .small, q .1);
+      rule = a .rule;
+      trend-is = a .trend-is;
+      damping = damping-next (tiesToEven (s .model)) t (s .phi) n e (a .damping) (rw (a .rule) at (q .0));
+      remainder = remainder-next (groupCount s) n e (a .remainder) (r .0);
+    }
+
+-- the remainder is small
+pub at-small : (s : State) {even : Bool} {t j p k : ℕ} → At s even t j p k → k ≤ 512
+at-small s {j = j} a = omega (arith, a .remainder, mod-le j (groupCount s), a .most)
+
+-- without season G is 0, so the remainder alone decides
+left-out : (s : State) → Valid s → (j : ℕ) → cond (eqb (j % groupCount s) 0) (s .gamma) 0 ≡ seasonTerm s j
+unfolding seasonTerm
+left-out s v j = go (hasSeason (s .model)) refl
+  where
+    none : (u : Bool) → _≡_ {A = ℕ} (cond u 0 0) 0
+    none true = refl
+    none false = refl
+
+    go : (t : Bool) → hasSeason (s .model) ≡ t → cond (eqb (j % cond t (s .period) 1) 0) (s .gamma) 0 ≡ cond (t && eqb (j % s .period) 0) (s .gamma) 0
+    go true h = refl
+    go false h = rw (v .no-season h .gamma) (none (eqb (j % 1) 0))
+
+-- a coefficient from its trend term x and its season term y
+pub coefficient-is : (s : State) {even : Bool} {t j p k x y : ℕ}
     → Valid s
-    → even ≡ tiesToEven (s .model)
-    → t ≡ trendOf (s .model)
-    → p ≡ cond (ltb t 2) 0 (dampingSum (tiesToEven (s .model)) (s .phi) j)
-    → k ≡ j % s .period
+    → At s even t j p k
     → x ≡ cond (eqb t 0) 0 (cond (eqb t 1) (s .beta * j) (shareNat even (s .beta) p))
     → y ≡ cond (eqb k 0) (s .gamma) 0
     → s .alpha + x + y ≡ coefficient s j
-unfolding coefficient trendTerm seasonTerm
-coefficient-is s j v e t p k x y =
-    rw (x, y, p, e, t, k, damped-alone (tiesToEven (s .model)) (trendOf (s .model)) (s .beta * j) (s .beta) (dampingSum (tiesToEven (s .model)) (s .phi) j), left-out s v (hasSeason (s .model)) (eqb (j % s .period) 0) refl)
+unfolding coefficient trendTerm
+coefficient-is s {j = j} v a x y =
+    rw (x, y, a .damping, a .rule, a .trend-is, a .remainder, damped-alone (tiesToEven (s .model)) (trendOf (s .model)) (s .beta * j) (s .beta) (dampingSum (tiesToEven (s .model)) (s .phi) j), left-out s v j)
 
--- the weight has one square more
+-- one square more
+pub squares-next : (s : State) (n : ℕ) {j : ℕ} → suc n ≡ j → squares s j ≡ squares s n + coefficient s j * coefficient s j
+unfolding squares
+squares-next s n j = rw (← j)
+
 pub weight-next : (s : State) (n : ℕ) {j : ℕ} → suc n ≡ j → weightOf s (j + 1) ≡ weightOf s j + coefficient s j * coefficient s j
-unfolding weightOf squares
-weight-next s n j =
-    let now : suc n + 1 - 1 ≡ suc n = omega arith in
-    let before : suc n - 1 ≡ n = omega arith in
-    rw (← j) (omega (arith, ap (squares s) now, ap (squares s) before))
+unfolding weightOf
+weight-next s n {j} e =
+    let now : j + 1 - 1 ≡ j = omega arith in
+    let before : j - 1 ≡ n = omega arith in
+    omega (arith, ap (squares s) now, ap (squares s) before, squares-next s n e)

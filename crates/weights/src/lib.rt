@@ -1,4 +1,6 @@
-// The weights and the variance of a forecast: document 01, "Forecast and variance".
+// The weights and the variance of a forecast: document 01, "Forecast and variance"; the weights by j modulo m: document 02, W-210.
+pub mod groups;
+pub mod promises;
 mod sums;
 pub mod variances;
 

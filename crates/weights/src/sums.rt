@@ -1,5 +1,6 @@
 // The arithmetic of a weight and its product with σ².
 use super::Variance;
+use models::has_season;
 use models::ties_to_even;
 use models::trend_of;
 use state::State;
@@ -10,7 +11,9 @@ ghost use lib.Dec.{eqb, ltb};
 ghost use lib.IntN.{pos, natAbs};
 ghost use Rattle.state.specs.Fixed.{R, shareNat};
 ghost use Rattle.state.specs.Valid.{Valid};
-ghost use Rattle.weights.specs.Weights.{weightOf};
+ghost use Rattle.weights.specs.Weights.{coefficient, weightOf};
+ghost use Rattle.weights.specs.Groups.{groupCount};
+ghost use Rattle.weights.specs.Facts.{At};
 
 // R(v) of a number that is not negative, as in the step: for ties to even one less is added where the whole part is even, without a branch.
 fn round(even: bool, v: u64) -> u64
@@ -37,7 +40,7 @@ fn share(even: bool, a: u32, x: u64) -> u64
 }
 
 // The next P; 0 where the trend is not damped and nothing uses it.
-fn next_damping(even: bool, trend: u8, phi: u32, p: u64) -> u64
+pub fn next_damping(even: bool, trend: u8, phi: u32, p: u64) -> u64
     requires { ⌜ (phi ≤ 65536) × (p ≤ 33554432) ⌝ }
     ensures value { λ r. ⌜ r ≡ cond (ltb trend 2) 0 (shareNat even phi (p + 65536)) ⌝ }
     ensures bound { λ r. ⌜ r ≤ p + 65536 ⌝ }
@@ -61,8 +64,15 @@ fn trend_term(even: bool, trend: u8, b: u32, j: u32, p: u64) -> u64
     share(even, b, p)
 }
 
-// The remainder by m of j, from that of j − 1: no division in each turn.
-fn next_remainder(k: u32, m: u8) -> u32
+// m, or 1 without season.
+pub fn group_count(s: State) -> u8
+    ensures { λ r. ⌜ r ≡ groupCount s ⌝ }
+{
+    if has_season(s.model) { s.period } else { 1 }
+}
+
+// The remainder of j by m, from that of j − 1: no division in each turn.
+pub fn next_remainder(k: u32, m: u8) -> u32
     requires { ⌜ k ≤ 512 ⌝ }
     ensures { λ r. ⌜ (r ≡ cond (eqb (k + 1) m) 0 (k + 1)) × (r ≤ k + 1) ⌝ }
 {
@@ -77,6 +87,15 @@ fn season_term(g: u32, remainder: u32) -> u64
     if remainder == 0 { g as u64 } else { 0 }
 }
 
+// The coefficient C of j, from P and the remainder of j; without season G is 0, so that any remainder serves.
+pub fn coefficient(s: State, even: bool, trend: u8, j: u32, p: u64, k: u32) -> u64
+    requires { ⌜ Valid s × At s even trend j p k ⌝ }
+    ensures value { λ r. ⌜ r ≡ coefficient s j ⌝ }
+    ensures bound { λ r. ⌜ r ≤ 33685504 ⌝ }
+{
+    (s.alpha as u64) + trend_term(even, trend, s.beta, j, p) + season_term(s.gamma, k)
+}
+
 // The weight of a horizon that is not rejected.
 pub fn weight_of(s: State, h: u32) -> u64
     requires { ⌜ Valid s × (1 ≤ h) × (h ≤ 512) ⌝ }
@@ -84,13 +103,14 @@ pub fn weight_of(s: State, h: u32) -> u64
 {
     let even = ties_to_even(s.model);
     let trend = trend_of(s.model);
+    let m = group_count(s);
     let mut sum: u64 = 0x1_0000_0000;
     let mut p: u64 = 0;
     let mut k: u32 = 0;
     for j in 1..h {
         p = next_damping(even, trend, s.phi, p);
-        k = next_remainder(k, s.period);
-        let c = (s.alpha as u64) + trend_term(even, trend, s.beta, j, p) + season_term(s.gamma, k);
+        k = next_remainder(k, m);
+        let c = coefficient(s, even, trend, j, p, k);
         sum = sum + c * c;
     }
     sum
