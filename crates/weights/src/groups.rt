@@ -18,7 +18,7 @@ ghost use lib.ListN.{length, drop, replicate};
 ghost use Rattle.state.specs.Valid.{Valid};
 ghost use Rattle.weights.specs.Groups.{groupCount, groups, weightGroups, weightGroupCells};
 
-// The first n cells, before anything is added to them.
+// Sets the first n cells to 0, since a buffer may be lent with anything in it.
 fn clear(n: usize, cells: &mut [u64])
     requires { ⌜ n ≤ length (now cells) ⌝ }
     ensures { λ _. ⌜ now (cells .exit) ≡ replicate n 0 ++ drop n (now (cells .entry)) ⌝ }
