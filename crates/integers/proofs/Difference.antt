@@ -2,8 +2,9 @@
 -- Two recipes:
 --   1. A law over variables:      law x y = rw (known x, known y) (simp diff (omega arith))
 --      `rw` names the unknowns, `simp diff` turns each statement over ℤ (≡, ≤ℤ, <ℤ, SFits w; of +ℤ -ℤ negℤ *ℤ pos negsuc) into one over ℕ, and omega closes that.
---      The premises are left in the goal (bind no `h`); to multiply one, `simp diff (λ h. omega (arith, mul-le-mul-left a h))`. With `Within` use the set `zs` of `Laws`.
---      Its bound is omega's, 64 monomials: good for any number of products with one signed factor, and for two or three signed factors. Past that: `Ring`.
+--      The premises are left in the goal (bind no `h`); to multiply one, `simp diff (λ h. omega (arith, mul-le-mul-left a h))`. With `Within` use the set `zs` of `Bounds`.
+--      Its bound is omega's, 64 monomials: good for any number of products with one signed factor, and for two or three signed factors. Past that: one law for each part of a sum, products
+--      folded into variables.
 --   2. In place, at a need:       omega (ints, sum x y, minus x y, scaled a x, fits-range (c .fits .x))
 --      `ints` reads the facts in reach and in the fields of records: ≤ℤ, <ℤ, ≡ at ℤ, what `if` leaves (leZ, ltZ ≡ true, false), and SFits w x, from which it has
 --      that `toZ w (ofZ w x)` is x. It proves ≤ℤ, <ℤ, ≡ at ℤ, SFits w x, T (nonNeg x), leZ/ltZ x y ≡ true/false, and records and pairs of these. A sum, a difference or a product in a
