@@ -12,16 +12,16 @@ use Rattle.snapshot.specs.Snapshots.{decoded}
 use Rattle.saving.specs.InPlace.{rewriteCode, inPlaceStepBytes, inPlaceForecastCode, inPlaceForecast}
 use Rattle.traces.specs.Calls.{followed, Reading, Forecast, InPlaceReading, InPlaceForecast, result}
 use Rattle.traces.proofs.Lists.{slice-laws}
-use Rattle.drift.specs.Limits.{Claim}
+use Rattle.drift.specs.Limits.{AllWithin}
 use Rattle.drift.proofs.Drift.{demand3}
 use Rattle.chain.specs.Chains.{ForecastWithin}
 
 pub directly : (s : State) (y : ℤ) (h : ℕ) → ForecastWithin s (Reading y) h (answerCode (forecast (step s y .state) h)) (answerValue (forecast (step s y .state) h))
-unfolding Claim result
+unfolding AllWithin result
 directly s y h o = demand3 s o (Reading y ∷ Forecast maxHorizon h ∷ []) .1 .0
 
 pub in-place : (d : List ℕ) → AreBytes d → rewriteCode d ≡ 0 → (y : ℤ) (h : ℕ) (old : ℤ) → ForecastWithin (decoded d) (InPlaceReading (followed []) y) h (inPlaceForecastCode (inPlaceStepBytes d y) h) (inPlaceForecast (inPlaceStepBytes d y) h old)
-unfolding Claim result
+unfolding AllWithin result
 in-place d b z y h old o =
     let next = slice-laws .reading d (decoded d) (slice-laws .opening d b z) y .holds in
     let f = slice-laws .forecast (inPlaceStepBytes d y) _ next h in

@@ -7,11 +7,11 @@ use lib.IntN.{ℤ}
 use Rattle.state.specs.declared.State.{State}
 use Rattle.traces.specs.Calls.{Call, horizon, result}
 use Rattle.drift.specs.Exact.{parametersOf, opened, exactAfter, expected}
-use Rattle.drift.specs.Limits.{EachWithin, Opening}
+use Rattle.drift.specs.Limits.{WithinLimit, EachWithin, Opening}
 
 -- n is the forecast's rejection, or 0 where v is the forecast
 abbrev pub ForecastWithin : State → Call → ℕ → ℕ → ℤ → Type 0
 ForecastWithin s reading h n v =
     Opening s
-    → EachWithin (parametersOf s) (cond (eqb n 0) (v ∷ []) [])
+    → EachWithin (WithinLimit (parametersOf s)) (cond (eqb n 0) (v ∷ []) [])
     (expected (parametersOf s) (exactAfter (parametersOf s) (opened s) (result s reading .event)) (horizon h (eqb n 0)))

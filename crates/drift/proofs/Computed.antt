@@ -1,10 +1,10 @@
 -- The pins, computed.
 use mathlib.Core.Path.{refl}
-use mathlib.Core.List.{List, [], _∷_}
+use mathlib.Core.List.{[]}
 use Prim.Native.Nat.{ℕ, _<_}
 use native.Mathlib.Omega.{arith}
 use lib.Dec.{le→leb, leb→le, lit<}
-use lib.IntN.{ℤ, pos}
+use lib.IntN.{pos}
 use lib.ListN.{getD-replicate}
 use borrow.Author.Tests.{eq-eqb}
 use Rattle.state.specs.Fixed.{R, share}
@@ -22,23 +22,20 @@ use Rattle.snapshot.specs.Slices.{inPlaceCode}
 use Rattle.saving.specs.Encoding.{toBytes, modelBytes, levelBytes, scoreBytes, seasonBytes, seasonsBytes, positionBytes, encoded}
 use Rattle.saving.specs.InPlace.{inPlaceStepCode, inPlaceStepBytes, inPlaceMissingCode, inPlaceMissingBytes, inPlaceSwitchBytes, inPlaceForecastCode, inPlaceForecast}
 use Rattle.traces.specs.Calls.{result, after}
-use Rattle.drift.specs.Exact.{Parameters, exactDamped, exactResidual, adjusted, exactSeason, exactTake, exactBatch, exactTrendAt, exactLine, exactForecast, exactAfter, Expected, expectedLevels, expectedForecasts, expected}
-use Rattle.drift.specs.Limits.{AtMost, WithinLimit, EachWithin, more, Claim, Opening}
+use Rattle.drift.specs.Exact.{exactDamped, exactResidual, adjusted, exactSeason, exactTake, exactBatch, exactTrendAt, exactLine, exactForecast, exactAfter, expectedLevels, expectedForecasts, expected}
+use Rattle.drift.specs.Limits.{AtMost, WithinLimit, AllWithin, Opening}
 use Rattle.drift.specs.Components.{StepError}
 use Rattle.drift.specs.Pins.{seasonal, damped, standing, ClaimOf, Refused, beside, creep, creepAcross, Attained, compared, falling, gaps, creeping, Needed, opening, calls, Shown, Pins}
+use Rattle.drift.proofs.Runs.{first}
 use Rattle.drift.proofs.Drift.{demand3}
 
--- the first comparison of an answer
-first : {c : Parameters} {z : ℤ} {e : Expected} {zs : List ℤ} {es : List Expected} → EachWithin c (z ∷ zs) (e ∷ es) → WithinLimit c z e
-first (more h u) = h
-
 index-refused : (k : ℕ) → k < 48 → ClaimOf (seasonal 48 32768 32768 (pos 0) []) (standing (pos 0) 0 k (pos 1)) [] → ⊥
-unfolding Claim AtMost
+unfolding AllWithin AtMost
 index-refused k l h =
     le→leb 2 0 (rw (getD-replicate 48 k (pos 0) (pos 0) l, eq-eqb k k refl) at (h .seasons k (omega arith)))
 
 refused : Refused
-unfolding Claim AtMost WithinLimit result check parametersCode allBelow sumOf sumOk R share dampedTrend seasonDue residual newLevel newTrend newSeason newSeasonal squareOf scoreAfter nextIndex stepCode takeCode afterTake run batchRun batch batchLevels trendAt trendLine seasonAt forecastOf forecastCodeTo forecastTo forecastList forecastsCodeTo forecastsTo forecastCellsTo fromBytes toBytes commandSize isCommand dueCode modelCode levelCode scoreCode seasonCode scanSeasons positionCode scan cellsAt decoded modelBytes levelBytes scoreBytes seasonBytes seasonsBytes positionBytes encoded inPlaceCode inPlaceForecastCode inPlaceForecast inPlaceSwitchBytes switchToEven exactDamped exactResidual adjusted exactSeason exactTake exactTrendAt exactLine exactForecast expectedLevels expectedForecasts exactAfter expected
+unfolding AllWithin AtMost WithinLimit result check parametersCode allBelow sumOf sumOk R share dampedTrend seasonDue residual newLevel newTrend newSeason newSeasonal squareOf scoreAfter nextIndex stepCode takeCode afterTake run batchRun batch batchLevels trendAt trendLine seasonAt forecastOf forecastCodeTo forecastTo forecastList forecastsCodeTo forecastsTo forecastCellsTo fromBytes toBytes commandSize isCommand dueCode modelCode levelCode scoreCode seasonCode scanSeasons positionCode scan cellsAt decoded modelBytes levelBytes scoreBytes seasonBytes seasonsBytes positionBytes encoded inPlaceCode inPlaceForecastCode inPlaceForecast inPlaceSwitchBytes switchToEven exactDamped exactResidual adjusted exactSeason exactTake exactTrendAt exactLine exactForecast expectedLevels expectedForecasts exactAfter expected
 refused =
     record {
       level-one = λ h. le→leb _ _ (h .level);

@@ -133,13 +133,13 @@ exactAfter c x (series ys taken) = exactBatch c x (take taken ys)
 exactAfter c x (horizon h accepted) = x
 exactAfter c x (horizons h accepted) = x
 
--- ---- what a number of an answer is compared with: L and n; or the exact forecast, its power, and how many missing readings were accepted before it
+-- ---- what a number of an answer is compared with: L and n; or the exact forecast, its horizon, its power, and how many missing readings were accepted before it
 pub data Expected : Type 0 where
   level-is : (L : ℤ) (n : ℕ) → Expected
-  forecast-is : (F : ℤ) (power missed : ℕ) → Expected
+  forecast-is : (F : ℤ) (h power missed : ℕ) → Expected
 
 abbrev pub expectedForecast : Parameters → Exact → ℕ → Expected
-expectedForecast c x h = forecast-is (exactForecast c x h) (exponent c x + h) (x .missed)
+expectedForecast c x h = forecast-is (exactForecast c x h) h (exponent c x + h) (x .missed)
 
 -- L and n right after each reading of a batch
 unfoldable pub expectedLevels : Parameters → Exact → List ℤ → List Expected

@@ -1,4 +1,4 @@
--- Demand 3's limits, multiplied out, and the claim.
+-- A list of calls beside the exact recursion; demand 3's limits, multiplied out, and its claim.
 use Prim.Native.Nat.{ℕ, suc, _+_, _*_, _-_, _^_, _≤_, _<_}
 use mathlib.Core.Bool.{true, false}
 use mathlib.Core.List.{List, [], _∷_}
@@ -19,7 +19,20 @@ distance power z Z = natAbs (pos (65536 ^ power) *ℤ z -ℤ Z)
 unfoldable pub AtMost : ℕ → ℕ → ℕ → ℤ → ℤ → Type 0
 AtMost num den power z Z = den * distance power z Z ≤ num * 65536 ^ power
 
--- n/2
+-- two lists of one length, number by number
+pub data EachWithin (limit : ℤ → Expected → Type 0) : List ℤ → List Expected → Type 0 where
+  none : EachWithin limit [] []
+  more : {z : ℤ} {e : Expected} {zs : List ℤ} {es : List Expected} → limit z e → EachWithin limit zs es → EachWithin limit (z ∷ zs) (e ∷ es)
+
+-- a list of calls from the state s, beside which the exact recursion runs from x: each number of an answer is within its limit of what the recursion has for it
+-- there, and the state that stands after the list is within `end`
+unfoldable pub AllWithin : (ℤ → Expected → Type 0) → (State → Exact → Type 0) → Parameters → State → Exact → List Call → Type 0
+AllWithin limit end c s x [] = end s x
+AllWithin limit end c s x (k ∷ ks) =
+    let r = result s k in
+    EachWithin limit (r .numbers) (expected c x (r .event)) × AllWithin limit end c (r .state) (exactAfter c x (r .event)) ks
+
+-- ---- demand 3: n/2
 abbrev pub HalfPerReading : ℕ → ℤ → ℤ → Type 0
 HalfPerReading n z Z = AtMost n 2 (2 * n) z Z
 
@@ -38,28 +51,19 @@ SeasonalBound c power z Z = AtMost (c .period * divisor c + 2 * (c .period * 655
 -- a level in a cell: n/2. A forecast with no missing reading accepted before it: 1/(2α) without season, the season's limit with one
 unfoldable pub WithinLimit : Parameters → ℤ → Expected → Type 0
 WithinLimit c z (level-is L n) = HalfPerReading n z L
-WithinLimit c z (forecast-is F power missed) =
+WithinLimit c z (forecast-is F h power missed) =
     missed ≡ 0
     → (c .seasonal ≡ false → PlainBound c power z F)
     × (c .seasonal ≡ true → SeasonalBound c power z F)
-
--- two lists of one length, number by number
-pub data EachWithin (c : Parameters) : List ℤ → List Expected → Type 0 where
-  none : EachWithin c [] []
-  more : {z : ℤ} {e : Expected} {zs : List ℤ} {es : List Expected} → WithinLimit c z e → EachWithin c zs es → EachWithin c (z ∷ zs) (e ∷ es)
 
 -- the level and each of the m season values, by n/2
 pub record StateWithin (c : Parameters) (s : State) (x : Exact) : Type 0 where
   pub level : HalfPerReading (x .n) (s .level) (x .L)
   pub seasons : (k : ℕ) → k < c .period → HalfPerReading (x .n) (getD (s .seasonal) k (pos 0)) (x .S k)
 
--- the single claim about a list of calls from the state s, beside which the exact recursion runs from x: each number of an answer is within its limit of what
--- the recursion has for it there, and the state that stands after the list is within n/2
-unfoldable pub Claim : Parameters → State → Exact → List Call → Type 0
-Claim c s x [] = StateWithin c s x
-Claim c s x (k ∷ ks) =
-    let r = result s k in
-    EachWithin c (r .numbers) (expected c x (r .event)) × Claim c (r .state) (exactAfter c x (r .event)) ks
+-- the single claim about a list of calls: each number of an answer is within its limit, and the state that stands after the list is within n/2
+abbrev pub Claim : Parameters → State → Exact → List Call → Type 0
+Claim c = AllWithin (WithinLimit c) (StateWithin c) c
 
 -- a state of a trendless model that checks 5, 6, 7, 16, 9, 10 and 17 let pass (and that the types of the code hold)
 pub record Opening (s : State) : Type 0 where

@@ -144,9 +144,9 @@ pub record Needed : Type 0 where
   pub level-alone : (fallenExact .n ≡ 14) × (fallenExact .missed ≡ 0) × (SeasonalBound (parametersOf fallen) 28 (fallen .level) (fallenExact .L) → ⊥)
   -- nor of a forecast after missing readings: an untouched place stays behind a level that creeps
   pub answer : result gone (Forecast maxHorizon 2) .numbers ≡ negsuc 425970 ∷ []
-  pub judged : expected (parametersOf gone) goneExact (result gone (Forecast maxHorizon 2) .event) ≡ forecast-is (exactForecast (parametersOf gone) goneExact 2) 28 13 ∷ []
+  pub judged : expected (parametersOf gone) goneExact (result gone (Forecast maxHorizon 2) .event) ≡ forecast-is (exactForecast (parametersOf gone) goneExact 2) 2 28 13 ∷ []
   pub missing : SeasonalBound (parametersOf gone) 28 (negsuc 425970) (exactForecast (parametersOf gone) goneExact 2) → ⊥
-  pub unclaimed : WithinLimit (parametersOf gone) (negsuc 425970) (forecast-is (exactForecast (parametersOf gone) goneExact 2) 28 13)
+  pub unclaimed : WithinLimit (parametersOf gone) (negsuc 425970) (forecast-is (exactForecast (parametersOf gone) goneExact 2) 2 28 13)
 
 -- ---- a run with every kind of call, from a count of 2^48 − 5: rejected are the reading 1,000,001 (13), the forecasts at 513 and, on the bedside display, at 49
 -- (11), the calls in place with a byte after the snapshot (3) and the one with a byte too few (4), the batch at its third reading (13), and the last reading, for the
@@ -192,22 +192,22 @@ pub record Shown : Type 0 where
       ∷ ([], [])
       ∷ (
         pos 14464 ∷ pos 265540 ∷ pos 14464 ∷ [],
-        forecast-is (pos (947912704 * 65536 ^ 2)) 3 0 ∷ forecast-is (pos (17402429440 * 65536 ^ 3)) 4 0 ∷ forecast-is (pos (947912704 * 65536 ^ 4)) 5 0 ∷ [],
+        forecast-is (pos (947912704 * 65536 ^ 2)) 1 3 0 ∷ forecast-is (pos (17402429440 * 65536 ^ 3)) 2 4 0 ∷ forecast-is (pos (947912704 * 65536 ^ 4)) 3 5 0 ∷ [],
       )
       ∷ ([], [])
-      ∷ (pos 14464 ∷ pos 265540 ∷ [], forecast-is (pos (947912704 * 65536 ^ 2)) 3 0 ∷ forecast-is (pos (17402429440 * 65536 ^ 3)) 4 0 ∷ [])
-      ∷ (pos 265540 ∷ [], forecast-is (pos (17402429440 * 65536 ^ 3)) 4 0 ∷ [])
+      ∷ (pos 14464 ∷ pos 265540 ∷ [], forecast-is (pos (947912704 * 65536 ^ 2)) 1 3 0 ∷ forecast-is (pos (17402429440 * 65536 ^ 3)) 2 4 0 ∷ [])
+      ∷ (pos 265540 ∷ [], forecast-is (pos (17402429440 * 65536 ^ 3)) 2 4 0 ∷ [])
       ∷ ([], [])
       ∷ ([], [])
       ∷ ([], [])
       ∷ ([], [])
-      ∷ (pos 153432 ∷ [], forecast-is (pos (658983803158528 * 65536 ^ 4)) 6 0 ∷ [])
+      ∷ (pos 153432 ∷ [], forecast-is (pos (658983803158528 * 65536 ^ 4)) 2 6 0 ∷ [])
       ∷ ([], [])
       ∷ ([], [])
       ∷ ([], [])
       ∷ (pos 57586 ∷ pos 57586 ∷ [], level-is (pos (16209040145121280000 * 65536 ^ 3)) 3 ∷ level-is (pos (16209040145121280000 * 65536 ^ 3)) 3 ∷ [])
       ∷ ([], [])
-      ∷ (pos 75432 ∷ [], forecast-is (pos (21232154068813611008 * 65536 ^ 4)) 7 2 ∷ [])
+      ∷ (pos 75432 ∷ [], forecast-is (pos (21232154068813611008 * 65536 ^ 4)) 1 7 2 ∷ [])
       ∷ ([], [])
       ∷ []
 

@@ -1,0 +1,95 @@
+-- W-207: from any state of a damped model without season that meets the conditions, every list of calls has its one-step forecasts within 1/K.
+use mathlib.Core.Path.{_≡_, refl, _∙_, ap, subst}
+use Prim.Native.Nat.{ℕ, suc}
+use native.Mathlib.Omega.{arith}
+use lib.IntN.{ℤ, pos, _-ℤ_, _*ℤ_}
+use Rattle.integers.proofs.Difference.{diff, known}
+use Rattle.models.specs.Models.{hasTrend}
+use Rattle.state.specs.Switching.{switched}
+use Rattle.state.specs.declared.State.{State}
+use Rattle.state.proofs.Passing.{bounded}
+use Rattle.state.proofs.Switches.{switch-law}
+use Rattle.ets.specs.Steps.{stepCode, missingCode, afterReading, afterMissing}
+use Rattle.ets.proofs.Kept.{reading-typed, reading-kept, missing-kept}
+use Rattle.forecasts.specs.Forecasts.{forecastOf}
+use Rattle.traces.specs.Laws.{Passing}
+use Rattle.drift.specs.Exact.{Parameters, parametersOf, Exact, opened, exactReading, exactMissing, exactSeason, level-is, expectedForecast}
+use Rattle.drift.proofs.Runs.{Keeps, claim}
+use Rattle.damped.specs.Limits.{WithinOneStep, Opening, OneStepForecasts}
+use Rattle.damped.proofs.Contraction.{near-start}
+use Rattle.damped.proofs.Invariant.{N, C, M, Damped, damped, Close, forecast-close, close-reading}
+
+-- the invariant, with the parameters that the opening state had: close as long as no reading was missed
+record Good (c : Parameters) (s : State) (x : Exact) : Type 0 where
+  passing : Passing s
+  same : parametersOf s ≡ c
+  bare : (k : ℕ) → x .S k ≡ pos 0
+  near : x .missed ≡ 0 → Close c s x
+
+module _ (c : Parameters) (m : Damped c) (s : State) (x : Exact) (w : Good c s x) where
+  kept-reading : (y : ℤ) → stepCode s y ≡ 0 → Good c (afterReading s y) (exactReading c x y)
+  unfolding exactSeason
+  kept-reading y z =
+      record {
+        passing = record { typed = reading-typed s y (w .passing .typed); passes = reading-kept s y (w .passing .typed .cells) z };
+        same = w .same;
+        bare = λ k. rw (m .seasonless);
+        near = λ u. subst (λ (c : Parameters). Damped c → Close c s x → Close c (afterReading s y) (exactReading c x y)) (w .same) (λ m n. close-reading s x m n u y (w .bare (x .p))) m (w .near u);
+      }
+
+  kept-missing : missingCode s ≡ 0 → Good c (afterMissing s) (exactMissing c x)
+  kept-missing z =
+      record {
+        passing = record { typed = record { cells = w .passing .typed .cells; low = w .passing .typed .low }; passes = missing-kept s z };
+        same = w .same;
+        bare = λ k. rw (m .trended, w .bare k);
+        near = λ u. absurd (omega arith);
+      }
+
+  kept-switch : Good c (switched s) x
+  kept-switch =
+      let law = switch-law s in
+      record {
+        passing = record { typed = record { cells = w .passing .typed .cells; low = w .passing .typed .low }; passes = law .checks ∙ w .passing .passes };
+        same = rw (law .trend, law .season) (w .same);
+        bare = w .bare;
+        near = w .near;
+      }
+
+  one-step-within : (h : ℕ) → WithinOneStep c (forecastOf s h) (expectedForecast c x h)
+  unfolding WithinOneStep
+  one-step-within h e u =
+      rw e (subst (λ (c : Parameters). Damped c → Close c s x → WithinOneStep c (forecastOf s 1) (expectedForecast c x 1)) (w .same) (λ m n. λ _ _. forecast-close s x m n u) m (w .near u) refl u)
+
+keeps : (c : Parameters) (m : Damped c) → Keeps c (WithinOneStep c) (Good c)
+unfolding WithinOneStep
+keeps c m =
+    record {
+      passing = λ s x w. w .passing;
+      reading = kept-reading c m;
+      missing = kept-missing c m;
+      switch = kept-switch c m;
+      level = λ s x w. tt;
+      forecast = one-step-within c m;
+    }
+
+-- ---- the opening state: nothing is off
+none : (z : ℤ) → pos 1 *ℤ z -ℤ z ≡ pos 0
+none z = rw (known z) (simp diff (omega arith))
+
+module _ (s : State) (o : Opening s) where
+  fits : Damped (parametersOf s)
+  fits = damped (parametersOf s) (rw (o .damped)) (o .seasonless) (bounded s (o .passes) .phi) (o .gains) (o .margin)
+
+  start : Good (parametersOf s) s (opened s)
+  start =
+      record {
+        passing = record { typed = o .typed; passes = o .passes };
+        same = refl;
+        bare = λ k. rw (o .seasonless);
+        near = λ _. rw (none (s .level), none (s .trend)) (near-start (s .beta) (C (parametersOf s)) (s .phi) (M (parametersOf s)) (N (parametersOf s)) 1);
+      }
+
+pub one-step-forecasts : OneStepForecasts
+one-step-forecasts s o calls =
+    claim (parametersOf s) (WithinOneStep (parametersOf s)) (Good (parametersOf s)) (keeps (parametersOf s) (fits s o)) (λ (s : State) (x : Exact). Unit {0}) (λ s x w. tt) calls s (opened s) (start s o)
