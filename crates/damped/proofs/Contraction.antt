@@ -2,7 +2,7 @@
 -- With δ and η the errors of level and trend over P (P × l − L, P × b − T), the invariant is
 --     |δ + φ η| ≤ 1/K − 1/2      (1 − φ) |η| ≤ β/K + 1
 -- and N is 65536 ^ 3 × K. Rounding d comes on top of the first, so that the one-step forecast is within 1/K by either rounding rule.
-use mathlib.Core.Path.{_≡_, sym, _∙_, ap, subst}
+use mathlib.Core.Path.{_≡_, _∙_, ap}
 use Prim.Native.Nat.{ℕ, _+_, _*_, _≤_, _<_}
 use native.Mathlib.Nat.{le-refl, le-of-mul-le-mul-left}
 use native.Mathlib.Omega.{arith}

@@ -1,10 +1,9 @@
 -- W-207: from any state of a damped model without season that meets the conditions, every list of calls has its one-step forecasts within 1/K.
-use mathlib.Core.Path.{_≡_, refl, _∙_, ap, subst}
-use Prim.Native.Nat.{ℕ, suc}
+use mathlib.Core.Path.{_≡_, refl, _∙_, subst}
+use Prim.Native.Nat.{ℕ}
 use native.Mathlib.Omega.{arith}
 use lib.IntN.{ℤ, pos, _-ℤ_, _*ℤ_}
 use Rattle.integers.proofs.Difference.{diff, known}
-use Rattle.models.specs.Models.{hasTrend}
 use Rattle.state.specs.Switching.{switched}
 use Rattle.state.specs.declared.State.{State}
 use Rattle.state.proofs.Passing.{bounded}
@@ -13,7 +12,7 @@ use Rattle.ets.specs.Steps.{stepCode, missingCode, afterReading, afterMissing}
 use Rattle.ets.proofs.Kept.{reading-typed, reading-kept, missing-kept}
 use Rattle.forecasts.specs.Forecasts.{forecastOf}
 use Rattle.traces.specs.Laws.{Passing}
-use Rattle.drift.specs.Exact.{Parameters, parametersOf, Exact, opened, exactReading, exactMissing, exactSeason, level-is, expectedForecast}
+use Rattle.drift.specs.Exact.{Parameters, parametersOf, Exact, opened, exactReading, exactMissing, exactSeason, expectedForecast}
 use Rattle.drift.proofs.Runs.{Keeps, claim}
 use Rattle.damped.specs.Limits.{WithinOneStep, Opening, OneStepForecasts}
 use Rattle.damped.proofs.Contraction.{near-start}

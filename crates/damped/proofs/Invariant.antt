@@ -1,5 +1,5 @@
 -- A state of a damped model without season beside the exact recursion: the invariant, which a reading keeps, and the one-step forecast by it.
-use mathlib.Core.Path.{_≡_, refl, sym, _∙_, ap, subst}
+use mathlib.Core.Path.{_≡_, ap}
 use mathlib.Core.Bool.{true, false}
 use Prim.Native.Nat.{ℕ, zero, suc, _+_, _*_, _-_, _^_, _≤_, _<_}
 use native.Mathlib.Nat.{pow-succ'}
@@ -9,8 +9,8 @@ use lib.IntN.{ℤ, pos, negsuc, natAbs, _+ℤ_, _-ℤ_, _*ℤ_}
 use lib.Signed.{_<ℤ_}
 use Rattle.integers.specs.Bounds.{Within}
 use Rattle.integers.proofs.Bounds.{within-parts}
-use Rattle.integers.proofs.Difference.{diff, known, up, dn, scaled, lt-out}
-use Rattle.models.specs.Models.{hasTrend, hasSeason, tiesToEven}
+use Rattle.integers.proofs.Difference.{diff, known, scaled, lt-out}
+use Rattle.models.specs.Models.{tiesToEven}
 use Rattle.state.specs.Fixed.{share}
 use Rattle.state.specs.declared.State.{State}
 use Rattle.state.proofs.Rounding.{share-error}

@@ -13,7 +13,7 @@ use Rattle.state.specs.States.{stateOf, check}
 use Rattle.state.specs.declared.State.{State}
 use Rattle.forecasts.specs.Forecasts.{maxHorizon, displayHorizon, forecastOf}
 use Rattle.traces.specs.Calls.{followed, cut, Call, Reading, Missing, Switch, Batch, Forecast, Forecasts, InPlaceReading, InPlaceMissing, InPlaceSwitch, InPlaceForecast, after}
-use Rattle.drift.specs.Exact.{parametersOf, Exact, opened, exactForecast, Expected, level-is, forecast-is, expectedForecast}
+use Rattle.drift.specs.Exact.{parametersOf, Exact, opened, exactForecast, level-is, forecast-is, expectedForecast}
 use Rattle.drift.specs.Limits.{distance, AtMost}
 use Rattle.drift.specs.Pins.{standing, besideFrom, compared}
 use Rattle.damped.specs.Limits.{scaledK, GainsWithinOne, OneStepBound, WithinOneStep, OneStepClaim, Opening}
