@@ -1,5 +1,7 @@
 -- The pins, computed.
 use mathlib.Core.Path.{_≡_, refl}
+use mathlib.Core.Bool.{Bool, false}
+use mathlib.Core.List.{[]}
 use Prim.Native.Nat.{ℕ}
 use native.Mathlib.Omega.{arith}
 use lib.Dec.{le→leb, leb→le, lit<}
@@ -7,9 +9,10 @@ use lib.IntN.{ℤ, pos}
 use lib.Signed.{_<ℤ_}
 use Rattle.state.specs.Fixed.{R, share}
 use Rattle.integers.specs.Below.{allBelow}
-use Rattle.state.specs.Scores.{sumOf, sumOk}
-use Rattle.state.specs.States.{check, parametersCode}
-use Rattle.state.specs.Switching.{switchToEven}
+use Rattle.models.specs.Models.{trendOf, hasSeason}
+use Rattle.state.specs.Scores.{noScore, sumOf, sumOk}
+use Rattle.state.specs.States.{stateOf, check, parametersCode}
+use Rattle.state.specs.Switching.{switched, switchToEven}
 use Rattle.ets.specs.Steps.{dampedTrend, seasonDue, newLevel, newTrend, newSeason, newSeasonal, squareOf, scoreAfter, nextIndex, stepCode, advanced, missingCode, step, missing, residual}
 use Rattle.ets.specs.Batches.{takeCode, afterTake, run, batchRun, batch, batchLevels}
 use Rattle.forecasts.specs.Forecasts.{trendAt, trendLine, seasonAt, forecastOf, forecastList, forecastTo, forecastCellsTo, forecastsTo, forecastCodeTo, forecastsCodeTo}
@@ -25,7 +28,7 @@ use Rattle.drift.specs.Limits.{AtMost, AllWithin}
 use Rattle.drift.specs.Pins.{beside, compared}
 use Rattle.drift.proofs.Runs.{first}
 use Rattle.damped.specs.Limits.{scaledK, GainsWithinOne, WithinOneStep, Opening}
-use Rattle.damped.specs.Pins.{damped, Refused, apart, rising, Attained, readings, Needed, opening, calls, Shown, Pins}
+use Rattle.damped.specs.Pins.{Refused, apart, rising, Attained, readings, Needed, opening, calls, Shown, Pins}
 use Rattle.damped.proofs.Damped.{one-step-forecasts}
 
 refused : Refused
@@ -39,22 +42,22 @@ refused =
       in-place = λ h. le→leb _ _ (first (h .0) refl refl);
       switched = λ h. le→leb _ _ (first (h .1 .0) refl refl);
       carried = λ h. le→leb _ _ (first (h .1 .0) refl refl);
-      slight = λ h. le→leb _ _ (first (h .0) refl refl);
-      strong = λ h. le→leb _ _ (first (h .0) refl refl);
+      phi-quarter = λ h. le→leb _ _ (first (h .0) refl refl);
+      phi-three-quarters = λ h. le→leb _ _ (first (h .0) refl refl);
     }
 
 attained : Attained
 unfolding apart rising after beside result check parametersCode allBelow sumOf sumOk R share dampedTrend seasonDue residual newLevel newTrend newSeason newSeasonal squareOf scoreAfter nextIndex stepCode step switchToEven trendAt trendLine seasonAt forecastOf exactDamped exactResidual adjusted exactSeason exactTrendAt exactLine exactForecast exactAfter
 attained = record { near = leb→le _ _ tt; near-even = leb→le _ _ tt; near-across = leb→le _ _ tt; beyond-half = leb→le _ _ tt }
 
--- the types and the model of a state of the pins; its check, its gains and K are computed
-opens : (A B F : ℕ) (l b : ℤ) → check (damped A B F l b) ≡ 0 → GainsWithinOne (parametersOf (damped A B F l b)) → pos 0 <ℤ scaledK (parametersOf (damped A B F l b)) → Opening (damped A B F l b)
-opens A B F l b passes gains margin =
+-- what the types of a state of the pins hold; the rest is computed
+opens : (outside : Bool) (model A B F : ℕ) (l b : ℤ) (count : ℕ) → check (stateOf outside model 0 A B 0 F l b [] 0 count noScore) ≡ 0 → trendOf model ≡ 2 → hasSeason model ≡ false → GainsWithinOne (parametersOf (stateOf outside model 0 A B 0 F l b [] 0 count noScore)) → pos 0 <ℤ scaledK (parametersOf (stateOf outside model 0 A B 0 F l b [] 0 count noScore)) → Opening (stateOf outside model 0 A B 0 F l b [] 0 count noScore)
+opens outside model A B F l b count passes damped seasonless gains margin =
     record {
       typed = record { cells = refl; low = lit< tt };
       passes = passes;
-      damped = refl;
-      seasonless = refl;
+      damped = damped;
+      seasonless = seasonless;
       gains = gains;
       margin = margin;
     }
@@ -63,29 +66,25 @@ needed : Needed
 unfolding AtMost WithinOneStep rising readings after beside result check parametersCode allBelow sumOf sumOk R share dampedTrend seasonDue residual newLevel newTrend newSeason newSeasonal squareOf scoreAfter nextIndex stepCode step advanced missingCode missing trendAt trendLine seasonAt forecastOf exactDamped exactResidual adjusted exactSeason exactTrendAt exactLine exactForecast exactAfter
 needed =
     record {
-      missing = (opens _ _ _ _ _ refl (leb→le _ _ tt) (record { lt = tt }), λ h. le→leb _ _ h);
+      missing = (opens _ _ _ _ _ _ _ _ refl refl refl (leb→le _ _ tt) (record { lt = tt }), λ h. le→leb _ _ h);
       unclaimed = λ _ z. absurd (omega arith);
       gains = (refl, record { lt = tt }, λ h. le→leb _ _ h);
       margin = (refl, leb→le _ _ tt, record { lt = tt }, λ h. le→leb _ _ h);
-      twice = (opens _ _ _ _ _ refl (leb→le _ _ tt) (record { lt = tt }), λ h. le→leb _ _ h);
-      horizon = (opens _ _ _ _ _ refl (leb→le _ _ tt) (record { lt = tt }), λ h. le→leb _ _ h);
+      twice = (opens _ _ _ _ _ _ _ _ refl refl refl (leb→le _ _ tt) (record { lt = tt }), λ h. le→leb _ _ h);
+      horizon = (opens _ _ _ _ _ _ _ _ refl refl refl (leb→le _ _ tt) (record { lt = tt }), λ h. le→leb _ _ h);
     }
 
 opens-late : Opening opening
 unfolding check parametersCode allBelow sumOf sumOk
-opens-late =
-    record {
-      typed = record { cells = refl; low = lit< tt };
-      passes = refl;
-      damped = refl;
-      seasonless = refl;
-      gains = leb→le _ _ tt;
-      margin = record { lt = tt };
-    }
+opens-late = opens _ _ _ _ _ _ _ _ refl refl refl (leb→le _ _ tt) (record { lt = tt })
+
+opens-even : Opening (switched opening)
+unfolding check parametersCode allBelow sumOf sumOk
+opens-even = opens _ _ _ _ _ _ _ _ refl refl refl (leb→le _ _ tt) (record { lt = tt })
 
 shown : Shown
 unfolding compared calls after result switchToEven inPlaceSwitchBytes check parametersCode allBelow sumOf sumOk R share dampedTrend seasonDue residual newLevel newTrend newSeason newSeasonal squareOf scoreAfter nextIndex stepCode advanced missingCode step missing takeCode afterTake run batchRun batch batchLevels trendAt trendLine seasonAt forecastOf forecastCodeTo forecastTo forecastList forecastsCodeTo forecastsTo forecastCellsTo fromBytes toBytes commandSize isCommand dueCode modelCode levelCode scoreCode seasonCode scanSeasons positionCode scan cellsAt decoded modelBytes levelBytes scoreBytes seasonBytes seasonsBytes positionBytes encoded inPlaceCode inPlaceStepCode inPlaceStepBytes inPlaceMissingCode inPlaceMissingBytes inPlaceForecastCode inPlaceForecast exactDamped exactResidual adjusted exactSeason exactTake exactBatch exactTrendAt exactLine exactForecast exactAfter expectedLevels expectedForecasts expected
-shown = record { opens = opens-late; holds = one-step-forecasts opening opens-late calls; rule-after = refl; compares = refl }
+shown = record { opens = opens-late; opens-even = opens-even; holds = one-step-forecasts opening opens-late calls; rule-after = refl; compares = refl }
 
 pub pins : Pins
 pins = record { refused = refused; attained = attained; needed = needed; shown = shown }

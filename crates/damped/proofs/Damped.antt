@@ -2,8 +2,7 @@
 use mathlib.Core.Path.{_≡_, refl, _∙_, subst}
 use Prim.Native.Nat.{ℕ}
 use native.Mathlib.Omega.{arith}
-use lib.IntN.{ℤ, pos, _-ℤ_, _*ℤ_}
-use Rattle.integers.proofs.Difference.{diff, known}
+use lib.IntN.{ℤ, pos}
 use Rattle.state.specs.Switching.{switched}
 use Rattle.state.specs.declared.State.{State}
 use Rattle.state.proofs.Passing.{bounded}
@@ -13,6 +12,7 @@ use Rattle.ets.proofs.Kept.{reading-typed, reading-kept, missing-kept}
 use Rattle.forecasts.specs.Forecasts.{forecastOf}
 use Rattle.traces.specs.Laws.{Passing}
 use Rattle.drift.specs.Exact.{Parameters, parametersOf, Exact, opened, exactReading, exactMissing, exactSeason, expectedForecast}
+use Rattle.drift.proofs.StepErrors.{none-apart}
 use Rattle.drift.proofs.Runs.{Keeps, claim}
 use Rattle.damped.specs.Limits.{WithinOneStep, Opening, OneStepForecasts}
 use Rattle.damped.proofs.Contraction.{near-start}
@@ -73,9 +73,6 @@ keeps c m =
     }
 
 -- ---- the opening state: nothing is off
-none : (z : ℤ) → pos 1 *ℤ z -ℤ z ≡ pos 0
-none z = rw (known z) (simp diff (omega arith))
-
 module _ (s : State) (o : Opening s) where
   fits : Damped (parametersOf s)
   fits = damped (parametersOf s) (rw (o .damped)) (o .seasonless) (bounded s (o .passes) .phi) (o .gains) (o .margin)
@@ -86,7 +83,7 @@ module _ (s : State) (o : Opening s) where
         passing = record { typed = o .typed; passes = o .passes };
         same = refl;
         bare = λ k. rw (o .seasonless);
-        near = λ _. rw (none (s .level), none (s .trend)) (near-start (s .beta) (C (parametersOf s)) (s .phi) (M (parametersOf s)) (N (parametersOf s)) 1);
+        near = λ _. rw (none-apart (s .level), none-apart (s .trend)) (near-start (s .beta) (C (parametersOf s)) (s .phi) (M (parametersOf s)) (N (parametersOf s)) 1);
       }
 
 pub one-step-forecasts : OneStepForecasts

@@ -1,5 +1,5 @@
 -- A state of a damped model without season beside the exact recursion: the invariant, which a reading keeps, and the one-step forecast by it.
-use mathlib.Core.Path.{_≡_, ap}
+use mathlib.Core.Path.{_≡_, refl, ap}
 use mathlib.Core.Bool.{true, false}
 use Prim.Native.Nat.{ℕ, zero, suc, _+_, _*_, _-_, _^_, _≤_, _<_}
 use native.Mathlib.Nat.{pow-succ'}
@@ -18,7 +18,7 @@ use Rattle.ets.specs.Steps.{dampedTrend, seasonDue, residual, residualOf, newLe
 use Rattle.forecasts.specs.Forecasts.{trendAt, trendLine, seasonAt, forecastOf}
 use Rattle.drift.specs.Exact.{Parameters, parametersOf, Exact, exponent, exactDamped, exactResidual, adjusted, exactReading, exactTrendAt, exactLine, exactForecast}
 use Rattle.drift.specs.Limits.{AtMost}
-use Rattle.drift.proofs.Readings.{power, power-next}
+use Rattle.drift.proofs.Readings.{plus-none, power, power-next}
 use Rattle.damped.specs.Limits.{scaledK, GainsWithinOne, OneStepBound}
 use Rattle.damped.proofs.Contraction.{Near, near-next, one-step, corrected, damped-error}
 
@@ -105,9 +105,6 @@ forecast-error P F l d b L T = rw (known l, known d, known b, known L, known T) 
 bare-law : (y Q S : ℤ) (P : ℕ) → S ≡ pos 0 → pos P *ℤ (pos 65536 *ℤ y) -ℤ (Q +ℤ pos 65536 *ℤ S) ≡ pos P *ℤ (pos 65536 *ℤ y) -ℤ Q
 bare-law y Q S P h = rw (h, known y, known Q) (simp diff (omega arith))
 
-plus-none : (z : ℤ) → z +ℤ pos 0 ≡ z
-plus-none z = rw (known z) (simp diff (omega arith))
-
 power-one : (n : ℕ) → 65536 ^ (2 * n + 1) ≡ 65536 * 65536 ^ (2 * n)
 power-one n = rw (add-one (2 * n)) (pow-succ' 65536 (2 * n))
 
@@ -145,11 +142,11 @@ module _ (s : State) (x : Exact) (m : Damped (parametersOf s)) (near : Close (pa
   -- ---- the forecast
   rounded : forecastOf s 1 ≡ q
   unfolding forecastOf trendLine trendAt seasonAt
-  rounded = rw (m .seasonless) (plus-none q)
+  rounded = rw (m .seasonless) (plus-none q (pos 0) refl)
 
   exact : exactForecast (parametersOf s) x 1 ≡ Q
   unfolding exactForecast exactLine exactTrendAt
-  exact = rw (m .seasonless) (plus-none Q)
+  exact = rw (m .seasonless) (plus-none Q (pos 0) refl)
 
   half3 : Within 65536 (pos 2 *ℤ r3)
   half3 = share-error (tiesToEven (s .model)) (s .phi) (s .trend)
@@ -169,7 +166,7 @@ module _ (s : State) (x : Exact) (m : Damped (parametersOf s)) (near : Close (pa
   module _ (y : ℤ) (bare : x .S (x .p) ≡ pos 0) where
     e-is : residualOf s y ≡ pos 65536 *ℤ y -ℤ q
     unfolding residual seasonDue
-    e-is = rw (d-is, m .seasonless, plus-none q)
+    e-is = rw (d-is, m .seasonless, plus-none q (pos 0) refl)
 
     E-is : exactResidual (parametersOf s) x y ≡ pos (65536 * P) *ℤ (pos 65536 *ℤ y) -ℤ Q
     unfolding exactResidual exactDamped

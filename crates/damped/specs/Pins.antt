@@ -10,6 +10,7 @@ use lib.Signed.{_<ℤ_}
 use Rattle.models.specs.Models.{usualGains, tiesToEven}
 use Rattle.state.specs.Scores.{noScore}
 use Rattle.state.specs.States.{stateOf, check}
+use Rattle.state.specs.Switching.{switched}
 use Rattle.state.specs.declared.State.{State}
 use Rattle.forecasts.specs.Forecasts.{maxHorizon, displayHorizon, forecastOf}
 use Rattle.traces.specs.Calls.{followed, cut, Call, Reading, Missing, Switch, Batch, Forecast, Forecasts, InPlaceReading, InPlaceMissing, InPlaceSwitch, InPlaceForecast, after}
@@ -44,9 +45,9 @@ pub record Refused : Type 0 where
   pub switched : FourClaim (InPlaceSwitch (followed []) ∷ Forecast maxHorizon 1 ∷ []) → ⊥
   pub carried : FourClaim (Reading (pos 1000001) ∷ Forecast maxHorizon 1 ∷ []) → ⊥
   -- α = β = 1/2, φ = 1/4: K = 3/8 + 1/16 = 7/16
-  pub slight : ClaimOf (damped 32768 32768 16384 (pos 3) (pos 0)) (standing (pos (3 * 65536 ^ 2 - 16 * 65536 ^ 2 / 7 - 1)) 1 0 (pos 0)) (Forecast maxHorizon 1 ∷ []) → ⊥
+  pub phi-quarter : ClaimOf (damped 32768 32768 16384 (pos 3) (pos 0)) (standing (pos (3 * 65536 ^ 2 - 16 * 65536 ^ 2 / 7 - 1)) 1 0 (pos 0)) (Forecast maxHorizon 1 ∷ []) → ⊥
   -- α = 1/2, β = 1/8, φ = 3/4: K = 1/8 − 3/64 = 5/64
-  pub strong : ClaimOf (damped 32768 8192 49152 (pos 13) (pos 0)) (standing (pos (13 * 65536 ^ 2 - 64 * 65536 ^ 2 / 5 - 1)) 1 0 (pos 0)) (Forecast maxHorizon 1 ∷ []) → ⊥
+  pub phi-three-quarters : ClaimOf (damped 32768 8192 49152 (pos 13) (pos 0)) (standing (pos (13 * 65536 ^ 2 - 64 * 65536 ^ 2 / 5 - 1)) 1 0 (pos 0)) (Forecast maxHorizon 1 ∷ []) → ⊥
 
 -- ---- runs that come up to the limit
 -- the one-step forecast after a list of calls, and the exact one
@@ -96,18 +97,18 @@ abbrev pub gaps : State
 gaps = damped 65536 0 32768 (pos 0) (pos 1)
 
 -- α and β just below 1, φ = 1/5: K = 0.92, but α + φβ = 1.2
-abbrev pub quick : State
-quick = damped 65535 65535 13107 (pos 37443) (negsuc 23469)
+abbrev pub largeGains : State
+largeGains = damped 65535 65535 13107 (pos 37443) (negsuc 23469)
 
-abbrev pub quickCalls : List Call
-quickCalls = readings (pos 589156 ∷ negsuc 112807 ∷ [])
+abbrev pub largeGainsCalls : List Call
+largeGainsCalls = readings (pos 589156 ∷ negsuc 112807 ∷ [])
 
 -- α and β just below 1/2, φ just below 1: α + φβ is below 1, but K is just above −1/2
-abbrev pub undamped : State
-undamped = damped 32767 32767 65535 (pos 33680) (negsuc 33063)
+abbrev pub barelyDamped : State
+barelyDamped = damped 32767 32767 65535 (pos 33680) (negsuc 33063)
 
-abbrev pub undampedCalls : List Call
-undampedCalls = readings (negsuc 721033 ∷ pos 589518 ∷ negsuc 147971 ∷ [])
+abbrev pub barelyDampedCalls : List Call
+barelyDampedCalls = readings (negsuc 721033 ∷ pos 589518 ∷ negsuc 147971 ∷ [])
 
 -- α = 3/10, β just below 1, φ just below 1/2, opened by 18
 abbrev pub swinging : State
@@ -124,9 +125,9 @@ pub record Needed : Type 0 where
   pub missing : Opening gaps × (BoundAfter gaps (Missing ∷ Missing ∷ []) 3 → ⊥)
   pub unclaimed : WithinOneStep (parametersOf gaps) (answerAfter gaps (Missing ∷ Missing ∷ [])) (expectedForecast (parametersOf gaps) (besideFrom gaps (Missing ∷ Missing ∷ [])) 1)
   -- that α + φβ is at most 1
-  pub gains : (check quick ≡ 0) × (pos 0 <ℤ scaledK (parametersOf quick)) × (BoundAfter quick quickCalls 5 → ⊥)
+  pub gains : (check largeGains ≡ 0) × (pos 0 <ℤ scaledK (parametersOf largeGains)) × (BoundAfter largeGains largeGainsCalls 5 → ⊥)
   -- that K is above 0: where it is below, 1/|K| is no limit
-  pub margin : (check undamped ≡ 0) × GainsWithinOne (parametersOf undamped) × (scaledK (parametersOf undamped) <ℤ pos 0) × (BoundAfter undamped undampedCalls 7 → ⊥)
+  pub margin : (check barelyDamped ≡ 0) × GainsWithinOne (parametersOf barelyDamped) × (scaledK (parametersOf barelyDamped) <ℤ pos 0) × (BoundAfter barelyDamped barelyDampedCalls 7 → ⊥)
   -- 1 − 2φ: with 1 − φ in its place the limit would not hold
   pub twice : Opening swinging × (AtMost (65536 ^ 3) ((65536 - 32767) * (19661 * 65536 + 32767 * 65535)) 21 (answerAfter swinging swingingCalls) (exactAt swinging swingingCalls 1) → ⊥)
   -- horizon 1: the forecast for horizon 2 is further off
@@ -157,6 +158,8 @@ calls =
 
 pub record Shown : Type 0 where
   pub opens : Opening opening
+  -- with ties to even from the start
+  pub opens-even : Opening (switched opening)
   pub holds : ClaimOf opening (opened opening) calls
   pub rule-after : tiesToEven (after opening calls .model) ≡ true
   pub compares : compared (parametersOf opening) opening (opened opening) calls

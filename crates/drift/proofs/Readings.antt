@@ -66,7 +66,7 @@ kept-law : (z e : ℤ) → adjusted 0 (pos 65536 *ℤ z) e ≡ pos 4294967296 *�
 unfolding adjusted
 kept-law z e = rw (known z, known e) (simp diff (omega arith))
 
-plus-none : (z d : ℤ) → d ≡ pos 0 → z +ℤ d ≡ z
+pub plus-none : (z d : ℤ) → d ≡ pos 0 → z +ℤ d ≡ z
 plus-none z d h = rw (h, known z) (simp diff (omega arith))
 
 -- without trend the exact values are over two powers a reading

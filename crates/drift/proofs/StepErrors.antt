@@ -143,7 +143,7 @@ half-unit : (z : ℤ) → Within 65536 (pos 2 *ℤ z) → 2 * natAbs z ≤ 1 * 6
 half-unit (pos a) w = omega (arith, within-parts w, scaled 2 (pos a))
 half-unit (negsuc a) w = omega (arith, within-parts w, scaled 2 (negsuc a))
 
-none-apart : (v : ℤ) → pos 1 *ℤ v -ℤ v ≡ pos 0
+pub none-apart : (v : ℤ) → pos 1 *ℤ v -ℤ v ≡ pos 0
 none-apart v = rw (known v) (simp diff (omega arith))
 
 module _ (s : State) (ok : check s ≡ 0) where
