@@ -12,8 +12,8 @@
 #include <string.h>
 #include <time.h>
 
-static const struct calls proved = {"proved", forecaster_step, forecaster_missing, forecaster_forecast, bench_forecasts,
-                                    bench_weight, bench_weight_groups, bench_batch};
+static const struct calls proved = {"proved",     forecaster_step,     forecaster_missing,      forecaster_forecast, bench_forecasts,
+                                    bench_weight, bench_weight_groups, bench_relative_variance, bench_batch};
 
 /* BUILDS is BUILD(gcc_O2) BUILD(gcc_O3) .., as bench/run has it */
 #define BUILD(name) extern const struct calls name##_calls;
@@ -23,10 +23,10 @@ BUILDS
 static const struct calls *const versions[] = {&proved, BUILDS};
 enum { VERSIONS = sizeof versions / sizeof *versions, READINGS = 4096, ROUNDS = 400 };
 
-enum call { STEP, MISSING, FORECAST, FORECASTS, WEIGHT, WEIGHT_GROUPS, BATCH };
-static const char *const ours[] = {"forecaster_step", "forecaster_missing",  "forecaster_forecast", "bench_forecasts",
-                                   "bench_weight",    "bench_weight_groups", "bench_batch"};
-static const char *const theirs[] = {"step", "missing", "forecast", "forecasts", "weight", "weight_groups", "batch"};
+enum call { STEP, MISSING, FORECAST, FORECASTS, WEIGHT, WEIGHT_GROUPS, RELATIVE_VARIANCE, BATCH };
+static const char *const ours[] = {"forecaster_step", "forecaster_missing",  "forecaster_forecast",     "bench_forecasts",
+                                   "bench_weight",    "bench_weight_groups", "bench_relative_variance", "bench_batch"};
+static const char *const theirs[] = {"step", "missing", "forecast", "forecasts", "weight", "weight_groups", "relative_variance", "batch"};
 
 struct row {
     const char *name;
@@ -43,6 +43,10 @@ struct row {
 /* with ties to even (W-211): the model byte has bit 6 */
 #define EVEN(name, call, h) {name "-even 2", call, 0x42, 0, h, 0}, {name "-even 6-24", call, 0x46, 24, h, 0}
 
+/* with relative errors (W-205): bit 3 */
+#define RELATIVE(name, h) {name " 8", RELATIVE_VARIANCE, 8, 0, h, 0}, {name " 14-24", RELATIVE_VARIANCE, 14, 24, h, 0}
+#define SIGMA2 UINT64_C(0x3FA47AE147AE147B) /* the bits of 0.04 */
+
 static const struct row rows[] = {
     EACH("step", STEP, 0),
     EACH("missing", MISSING, 0),
@@ -58,6 +62,9 @@ static const struct row rows[] = {
     EVEN("weight-512", WEIGHT, 512),
     EVEN("groups-512", WEIGHT_GROUPS, 512),
     EVEN("batch", BATCH, 0),
+    RELATIVE("relative-1", 1),
+    RELATIVE("relative-24", 24),
+    RELATIVE("relative-512", 512),
     {"step-refused-5 0", STEP, 0, 0, 0, 5},
     {"step-refused-13 0", STEP, 0, 0, 0, 13},
     {"step-refused-13 6-48", STEP, 6, 48, 0, 13},
@@ -94,6 +101,7 @@ struct answer {
     uint8_t code;
     int64_t number;
     uint64_t weight, groups[48];
+    double value, thetas[REF_MOST_HORIZON];
     size_t taken;
     int64_t cells[READINGS];
 };
@@ -117,6 +125,9 @@ static inline void call(const struct row *r, const struct calls *who, struct len
         break;
     case WEIGHT_GROUPS:
         a->code = who->weight_groups(g->bytes, g->length, r->horizon, a->groups, 48);
+        break;
+    case RELATIVE_VARIANCE:
+        a->code = who->relative_variance(g->bytes, g->length, r->horizon, SIGMA2, &a->value, a->thetas, REF_MOST_HORIZON);
         break;
     case BATCH:
         a->code = who->batch(g->bytes, g->length, readings, READINGS, a->cells, READINGS, &a->taken);
@@ -151,7 +162,7 @@ static void compare(const struct row *r) {
 
 static void times(const struct row *r, double *least) {
     static struct answer a;
-    unsigned calls = r->refused ? 1000 : r->call == BATCH ? 4 : r->horizon == 512 ? 50 : 1000;
+    unsigned calls = r->refused ? 1000 : r->call == BATCH ? 4 : r->horizon == 512 ? r->call == RELATIVE_VARIANCE ? 1 : 50 : 1000;
     for (int v = 0; v < VERSIONS; v++)
         least[v] = 1e300;
     for (int round = 0; round < ROUNDS; round++)

@@ -15,11 +15,16 @@ uint8_t bench_batch(const uint8_t *snapshot, size_t length, const int32_t *readi
 /* The forecasts for 1 to the horizon into the first cells; nothing is written where refused. 11, 12. */
 uint8_t bench_forecasts(const uint8_t *snapshot, size_t length, uint32_t horizon, int64_t *values, size_t room);
 
-/* The weight of a horizon into *weight, which stays as it was where refused. 11. */
+/* The weight of a horizon into *weight, which stays as it was where refused. 3 for a model with relative errors (W-205), 11. */
 uint8_t bench_weight(const uint8_t *snapshot, size_t length, uint32_t horizon, uint64_t *weight);
 
 /* The squares of C that a weight is made of, by j modulo m (W-210), into the first m cells, or the first without season;
- * nothing is written where refused. 11, 12. */
+ * nothing is written where refused. 3 as above, 11, 12. */
 uint8_t bench_weight_groups(const uint8_t *snapshot, size_t length, uint32_t horizon, uint64_t *cells, size_t room);
+
+/* The variance of relative errors (W-205) into *value, and theta of 1 to the horizon into the first cells; sigma2 is the bits
+ * of a double. Nothing is written where refused. 3 for a model with other errors, 11, 18, 12, 19. */
+uint8_t bench_relative_variance(const uint8_t *snapshot, size_t length, uint32_t horizon, uint64_t sigma2, double *value,
+                                double *thetas, size_t room);
 
 #endif

@@ -13,6 +13,8 @@ struct calls {
     uint8_t (*forecasts)(const uint8_t *group, size_t length, uint32_t horizon, int64_t *values, size_t room);
     uint8_t (*weight)(const uint8_t *group, size_t length, uint32_t horizon, uint64_t *weight);
     uint8_t (*weight_groups)(const uint8_t *group, size_t length, uint32_t horizon, uint64_t *cells, size_t room);
+    uint8_t (*relative_variance)(const uint8_t *group, size_t length, uint32_t horizon, uint64_t sigma2, double *value, double *thetas,
+                                 size_t room);
     uint8_t (*batch)(const uint8_t *group, size_t length, const int32_t *readings, size_t n, int64_t *levels, size_t room,
                      size_t *taken);
 };

@@ -6,6 +6,9 @@
  * FORECASTER_GROUP_LENGTH(m). Level, trend and season values are whole grains; a grain is 1/65536 of a reading unit. Bit 6
  * of the model byte (0x40) is the rounding rule: what is not a whole number of grains is rounded to the nearest one, and a
  * tie goes up where the bit is 0, to the even number where it is 1. Groups saved before there was such a rule have 0 there.
+ * Bit 3 (0x08) says that the errors are relative, in proportion to the forecast: valid model bytes are 0, 1, 2, 4, 5 and 6,
+ * each with either bit, both or none. It chooses the variance that the program gives of the group, by command 32 and not 31;
+ * every call here does the same whole numbers with it as without, and keeps it.
  *
  * Command 15 is the score, how close the forecasts were: `readings` real readings were taken, missing ones not among them,
  * and high * 2^64 + low is the sum of the squares of their e, each rounded to a whole reading unit by the state's rule. The
@@ -43,7 +46,7 @@ extern "C" {
 #define FORECASTER_GROUP_LENGTH(m) (71 + 10 * (size_t)(m))
 #define FORECASTER_OLD_GROUP_LENGTH(m) (46 + 10 * (size_t)(m))
 
-/* The refusals that a call can return. */
+/* The refusals that a call can return; 18 and 19 are of the variance of relative errors, and no call here returns them. */
 enum {
     FORECASTER_ACCEPTED = 0,
     FORECASTER_UNKNOWN_COMMAND = 2, /* The first byte of a command is none of the commands. */
@@ -61,7 +64,9 @@ enum {
     FORECASTER_COUNT_FULL = 14,     /* The count already stands at 2^48. */
     FORECASTER_LEAVES_RANGE = 15,   /* A new level, trend or season value would leave its range. */
     FORECASTER_UNUSUAL_GAINS = 16,  /* 10, and the gains are outside the usual region. Checked right after 7. */
-    FORECASTER_BAD_SCORE = 17       /* The readings exceed the count, or the sum readings * 2^52. Checked right after 10. */
+    FORECASTER_BAD_SCORE = 17,      /* The readings exceed the count, or the sum readings * 2^52. Checked right after 10. */
+    FORECASTER_BAD_SIGMA2 = 18,     /* The bits of sigma^2 exceed those of 1.0. Checked right after 11. */
+    FORECASTER_NOT_FINITE = 19      /* A theta, an S or the variance is not finite. Checked last. */
 };
 
 /* One step: takes the reading, a whole number from -1,000,000 to 1,000,000, into the group's state. An accepted step

@@ -1,5 +1,5 @@
 /* Documents 01 and 02 in C, written from those papers and not from the proved code: the station's calls, and those for a
- * batch, all horizons and the weight, on a slice that holds one group. The group is checked where it lies and only what a
+ * batch, all horizons, the weight and the variance of relative errors, on a slice that holds one group. The group is checked where it lies and only what a
  * call moves is written. The tests compare the proved calls with these, and the benchmark measures both.
  *
  * An old group, without command 15 (W-204), may have up to 25 bytes after it, which are not looked at. The calls that write
@@ -48,11 +48,17 @@ uint8_t ref_forecast(const uint8_t *group, size_t length, uint32_t horizon, int6
 /* The forecasts for 1 to the horizon into the first cells. 11, 12. */
 uint8_t ref_forecasts(const uint8_t *group, size_t length, uint32_t horizon, int64_t *values, size_t room);
 
-/* The weight of a horizon into *weight. 11. */
+/* The weight of a horizon into *weight. 3 for a model with relative errors (W-205), 11. */
 uint8_t ref_weight(const uint8_t *group, size_t length, uint32_t horizon, uint64_t *weight);
 
-/* The squares of C that a weight is made of, by j modulo m (W-210), into the first m cells, or the first. 11, 12. */
+/* The squares of C that a weight is made of, by j modulo m (W-210), into the first m cells, or the first. 3 as above, 11, 12. */
 uint8_t ref_weight_groups(const uint8_t *group, size_t length, uint32_t horizon, uint64_t *cells, size_t room);
+
+/* The variance of a model with relative errors (W-205) into *value, and theta of 1 to the horizon into the first cells;
+ * sigma2 is the bits of a double. 3 for the other models, 11, 18, 12, 19. Compiled without fused operations
+ * (-ffp-contract=off), it rounds as the paper says. */
+uint8_t ref_relative_variance(const uint8_t *group, size_t length, uint32_t horizon, uint64_t sigma2, double *value,
+                              double *thetas, size_t room);
 
 /* A batch from the group's state, which stays as it is: cell k gets the level after reading k. 12, then each reading's
  * 13, 14, 15, at the first of which it halts. *taken gets the readings taken, 0 where it was refused before the first. */

@@ -16,6 +16,10 @@
 #define MOST (FORECASTER_GROUP_LENGTH(48) + 8)
 #define ROOM 25 /* of command 15, which an old group lacks */
 #define UNTOUCHED INT64_C(0x5AA5DEADBEEF1234)
+#define ONE UINT64_C(0x3FF0000000000000)  /* the bits of 1.0 */
+#define HALF UINT64_C(0x3FE0000000000000) /* and of 0.5 */
+
+enum { EVEN = 0x40, RELATIVE = 0x08 }; /* bits of the model byte: ties to even (W-211), relative errors (W-205) */
 
 static unsigned long calls, failures;
 static const char *what = "";
@@ -30,15 +34,17 @@ static void expect(int holds, const char *text) {
 }
 
 /* ---- the calls, and the refusals that each can give and has given */
-enum call { STEP, MISSING, SWITCH, FORECAST, BATCH, FORECASTS, WEIGHT, WEIGHT_GROUPS, CALLS };
-static const char *const names[CALLS] = {"step", "missing", "switch", "forecast", "batch", "forecasts", "weight", "weight groups"};
+enum call { STEP, MISSING, SWITCH, FORECAST, BATCH, FORECASTS, WEIGHT, WEIGHT_GROUPS, RELATIVE_VARIANCE, CALLS };
+static const char *const names[CALLS] = {"step",      "missing", "switch",        "forecast",         "batch",
+                                         "forecasts", "weight",  "weight groups", "relative variance"};
 #define BIT(code) (1u << (code))
 #define OF_A_GROUP (BIT(11) - BIT(2) + BIT(16) + BIT(17)) /* 2 to 10, 16 and 17 */
 #define REWRITTEN (OF_A_GROUP | BIT(12))                  /* an old group without room */
 #define OF_A_READING (BIT(13) | BIT(14) | BIT(15))
 static const unsigned refusals[CALLS] = {REWRITTEN | OF_A_READING, REWRITTEN | BIT(14) | BIT(15),        REWRITTEN,
                                          OF_A_GROUP | BIT(11),     OF_A_GROUP | BIT(12) | OF_A_READING, OF_A_GROUP | BIT(11) | BIT(12),
-                                         OF_A_GROUP | BIT(11),     OF_A_GROUP | BIT(11) | BIT(12)};
+                                         OF_A_GROUP | BIT(11),     OF_A_GROUP | BIT(11) | BIT(12),
+                                         OF_A_GROUP | BIT(11) | BIT(12) | BIT(18) | BIT(19)};
 static unsigned long given[CALLS][256];
 
 static int answered(enum call call, uint8_t got, uint8_t code) {
@@ -57,7 +63,7 @@ static void all_given(void) {
     what = "refusals";
     for (int call = 0; call < CALLS; call++)
         for (int code = 0; code < 256; code++) {
-            int can = code == 0 || (code < 18 && refusals[call] & BIT(code));
+            int can = code == 0 || (code < 20 && refusals[call] & BIT(code));
             if (can != (given[call][code] != 0)) {
                 failures++;
                 fprintf(stderr, "%s: %d was %s\n", names[call], code, can ? "never given" : "given");
@@ -228,6 +234,23 @@ static int try_groups(const uint8_t *bytes, size_t length, uint32_t horizon, siz
     return got;
 }
 
+/* The doubles are compared by their bits. Those that nobody has written are numbers too. */
+static int try_relative(const uint8_t *bytes, size_t length, uint32_t horizon, uint64_t sigma2, size_t room) {
+    int64_t found[MOST_CELLS], beside[3] = {UNTOUCHED, UNTOUCHED, UNTOUCHED};
+    double expected[MOST_CELLS], value[3], got_value[3];
+    const uint8_t *at = lend(groups, bytes, length), *theirs = lend(reference_groups, bytes, length);
+    double *cells = (double *)untouched(found, room);
+    memcpy(expected, found, room * sizeof *expected);
+    memcpy(value, beside, sizeof value);
+    memcpy(got_value, beside, sizeof got_value);
+    uint8_t code = ref_relative_variance(theirs, length, horizon, sigma2, &value[1], expected, room);
+    int got = answered(RELATIVE_VARIANCE, bench_relative_variance(at, length, horizon, sigma2, &got_value[1], cells, room), code);
+    expect_bytes(at, bytes, length);
+    expect_bytes(cells, expected, room * sizeof *expected);
+    expect(memcmp(got_value, value, sizeof value) == 0, "the variance is not the one expected, or a byte beside it was written");
+    return got;
+}
+
 /* all calls on bytes that each must refuse by the same number, and leave as they are */
 static void all_refuse(const uint8_t *bytes, size_t length, int code) {
     uint8_t copy[MOST];
@@ -242,16 +265,24 @@ static void all_refuse(const uint8_t *bytes, size_t length, int code) {
     expect(try_forecasts(bytes, length, 2, 2) == code, "a call for all horizons was not refused by this number");
     expect(try_weight(bytes, length, 1) == code, "a weight was not refused by this number");
     expect(try_groups(bytes, length, 1, 48) == code, "the groups of a weight were not refused by this number");
+    expect(try_relative(bytes, length, 1, 0, 1) == code, "a relative variance was not refused by this number");
 }
 
-/* the calls that only read a group, on one that each must take */
+/* the calls for a horizon, on a group that each must take, but for the variance that its errors do not have (W-205) */
+static void all_foresee(const uint8_t *bytes, size_t length) {
+    expect(try_forecast(bytes, length, 7) == 0, "a forecast was refused");
+    expect(try_forecasts(bytes, length, 7, 7) == 0, "a call for all horizons was refused");
+    int relative = bytes[1] & RELATIVE, other = FORECASTER_OUT_OF_PLACE;
+    expect(try_weight(bytes, length, 7) == (relative ? other : 0), "a weight was refused, or given of relative errors");
+    expect(try_groups(bytes, length, 7, 48) == (relative ? other : 0), "the groups of a weight were refused, or given of relative errors");
+    expect(try_relative(bytes, length, 7, HALF, 7) == (relative ? 0 : other), "a relative variance was refused, or given of other errors");
+}
+
+/* the calls that only read a group */
 static void all_read(const uint8_t *bytes, size_t length) {
     const int32_t readings[] = {5, INT32_MIN, 6};
-    expect(try_forecast(bytes, length, 7) == 0, "a forecast was refused");
+    all_foresee(bytes, length);
     expect(try_batch(bytes, length, readings, 3, 3) == 0, "a batch was refused");
-    expect(try_forecasts(bytes, length, 7, 7) == 0, "a call for all horizons was refused");
-    expect(try_weight(bytes, length, 7) == 0, "a weight was refused");
-    expect(try_groups(bytes, length, 7, 48) == 0, "the groups of a weight were refused");
 }
 
 /* one of the calls that write the group */
@@ -268,7 +299,10 @@ static int seasonal(int model) {
     return model >> 2 & 1;
 }
 
-enum { EVEN = 0x40 }; /* ties to even (W-211) */
+/* the model without its rounding rule and the kind of its errors */
+static int shape(int model) {
+    return model & ~(EVEN | RELATIVE);
+}
 
 static struct ref_state plain(int model, int m) {
     struct ref_state st = {.model = model, .m = m, .A = 16384};
@@ -296,7 +330,8 @@ static size_t in_form(int old, const struct ref_state *st, uint8_t *bytes) {
     return old ? ref_old_group(st, bytes) : ref_group(st, bytes);
 }
 
-static const int models[] = {0, 1, 2, 4, 5, 6, EVEN, EVEN + 1, EVEN + 2, EVEN + 4, EVEN + 5, EVEN + 6};
+#define EACH(bits) (bits), (bits) + 1, (bits) + 2, (bits) + 4, (bits) + 5, (bits) + 6
+static const int models[] = {EACH(0), EACH(EVEN), EACH(RELATIVE), EACH(EVEN + RELATIVE)};
 enum { MODELS = sizeof models / sizeof *models };
 static const int periods[] = {2, 3, 24, 48};
 
@@ -408,17 +443,35 @@ static void listed_cases(void) {
     expect(forecaster_step(at, n, 2, &number) == 0 && number == -196608, "another step");
     st.l = 229376, st.count = 3, st.readings = 2, st.low = 109;
     expect_state(at, st);
-    calls += 16 + 24 + 6;
+    what = "W-205: T3 and T5 with relative errors, no operation of which is rounded";
+    double value = 0, thetas[4] = {7, 7, 7, 7};
+    st = plain(9, 0), st.A = 32768, st.B = 16384, st.b = 65536;
+    n = ref_group(&st, bytes);
+    at = lend(groups, bytes, n);
+    expect(forecaster_step(at, n, 3, &number) == 0, "T3's step");
+    st.l = 131072, st.b = 98304, st.count = 1, st.readings = 1, st.low = 4;
+    expect_state(at, st);
+    expect(bench_relative_variance(at, n, 3, HALF, &value, thetas, 4) == 0 && value == 42.3128662109375, "T3: the variance of 3");
+    expect(thetas[0] == 12.25 && thetas[1] == 28.4453125 && thetas[2] == 56.375244140625 && thetas[3] == 7, "T3: theta of 1, 2, 3");
+    expect(bench_weight(at, n, 3, &weight) == FORECASTER_OUT_OF_PLACE, "T3: a weight");
+    st = plain(12, 2), st.G = 32768, st.s[0] = 65536, st.s[1] = -65536;
+    n = ref_group(&st, bytes);
+    at = lend(groups, bytes, n);
+    expect(forecaster_step(at, n, 5, &number) == 0, "T5's step");
+    expect(bench_relative_variance(at, n, 3, HALF, &value, thetas, 3) == 0 && value == 0.75, "T5: the variance of 3");
+    expect(thetas[0] == 0 && thetas[1] == 16 && thetas[2] == 0.5, "T5: theta of 1, 2, 3");
+    expect(bench_relative_variance(at, n, 3, ONE + 1, &value, thetas, 3) == FORECASTER_BAD_SIGMA2 && value == 0.75, "18");
+    calls += 16 + 24 + 6 + 6;
 }
 
 /* ---- refusals 2, 3 and 4 at every place of every kind of group */
 static void cuts_and_commands(int outside, int old) {
     for (int i = 0; i < MODELS; i++)
         for (size_t j = 0; j < sizeof periods / sizeof *periods; j++) {
-            if ((!seasonal(models[i]) && j > 0) || (outside && models[i] % EVEN == 0))
+            if ((!seasonal(models[i]) && j > 0) || (outside && shape(models[i]) == 0))
                 continue;
-            if (models[i] & EVEN && j > 1)
-                continue; /* the rounding rule moves nothing here */
+            if (models[i] != shape(models[i]) && j > 1)
+                continue; /* the rounding rule and the kind of errors move nothing here */
             struct ref_state st = plain(models[i], seasonal(models[i]) ? periods[j] : 0);
             if (outside)
                 st = moved_outside(st);
@@ -440,7 +493,7 @@ static void cuts_and_commands(int outside, int old) {
                         continue;
                     bytes[at] = (uint8_t)first;
                     int low = first & 15, high = first >> 4;
-                    int known = (high == 1 && (low < 6 || low == 8)) || (high == 2 && low < 2) || (high == 3 && low < 2) || first == 0x40;
+                    int known = (high == 1 && (low < 6 || low == 8)) || (high == 2 && low < 2) || (high == 3 && low < 3) || first == 0x40;
                     int code = known ? FORECASTER_OUT_OF_PLACE : FORECASTER_UNKNOWN_COMMAND;
                     int other = 0; /* the other command that is due there as well */
                     if (at == 0 && first == (st.outside ? 0x10 : 0x18))
@@ -486,8 +539,7 @@ static void region(void) {
                         all_refuse(bytes, n, FORECASTER_BAD_PERIOD);
                         continue;
                     }
-                    expect(try_forecast(bytes, n, 5) == 0, "a forecast was refused");
-                    expect(try_weight(bytes, n, 5) == 0, "a weight was refused");
+                    all_read(bytes, n);
                     expect(try_step(bytes, n, 7) == 0, "a step was refused");
                     expect(try_missing(bytes, n) == 0, "a missing reading was refused");
                     expect(bytes[0] == (outside ? 0x18 : 0x10), "the group begins with another command");
@@ -549,7 +601,7 @@ static void old_groups(void) {
             st.l = (int64_t)(random64() % 4000000) - 2000000, st.b = trend_of(models[i]) ? st.l / 7 : 0;
             st.p = m ? (int)(random64() % (unsigned)m) : 0, st.count = random64() >> 20;
             old_group(st);
-            if (models[i] % EVEN != 0 && m % 5 == 0)
+            if (shape(models[i]) != 0 && m % 5 == 0)
                 old_group(moved_outside(st));
             if (m == 0)
                 break;
@@ -605,8 +657,8 @@ static void scores(void) {
             size_t n = ref_group(&st, bytes);
             if (edges[k].code == 0) {
                 const int32_t none[1] = {0};
-                expect(try_forecast(bytes, n, 1) == 0 && try_weight(bytes, n, 1) == 0, "a valid score was refused");
-                expect(try_batch(bytes, n, none, 0, 0) == 0 && try_forecasts(bytes, n, 1, 1) == 0, "a valid score was refused");
+                all_foresee(bytes, n);
+                expect(try_batch(bytes, n, none, 0, 0) == 0, "a valid score was refused");
                 expect(try_switch(bytes, n) == 0, "a valid score was refused");
                 expect(try_missing(bytes, n) == (st.count < full ? 0 : FORECASTER_COUNT_FULL), "a missing reading beside this score");
                 expect(try_step(bytes, n, 1000000) == (st.count + 1 < full ? 0 : FORECASTER_COUNT_FULL), "a step beside this score");
@@ -679,7 +731,7 @@ static void operands(void) {
         st = plain(0, 0);
         n = ref_group(&st, bytes);
         bytes[1] = (uint8_t)model;
-        if ((model & ~EVEN) > 6 || (model & ~EVEN) == 3)
+        if (shape(model) > 6 || shape(model) == 3)
             all_refuse(bytes, n, FORECASTER_BAD_MODEL);
     }
     what = "season length";
@@ -801,12 +853,54 @@ static void operands(void) {
             expect(try_forecasts(bytes, n, h, room) == code, "horizon and room");
             expect(try_weight(bytes, n, h) == (code == 12 ? 0 : code), "a weight's horizon");
         }
+    what = "the variance of relative errors";
+    const uint32_t distances[] = {0, 1, 2, 3, 24, 60, 200, 512, 513};
+    const uint64_t sigma2s[] = {0, 1, UINT64_C(0x3FA47AE147AE147B), ONE - 1, ONE, ONE + 1, 2 * ONE, UINT64_C(0x7FF0000000000000),
+                                UINT64_C(0x7FF8000000000000), UINT64_C(0x8000000000000000), UINT64_MAX};
+    for (int i = 0; i < MODELS; i++)
+        for (size_t j = 0; j < (seasonal(models[i]) ? sizeof periods / sizeof *periods : 1); j++)
+            for (size_t far = 0; far < sizeof distances / sizeof *distances; far++)
+                for (size_t k = 0; k < sizeof sigma2s / sizeof *sigma2s; k++)
+                    for (size_t less = 0; less <= 2; less++) {
+                        uint32_t h = distances[far];
+                        size_t room = h + 1 > less ? h + 1 - less : 0;
+                        int code = h == 0 || h > 512 ? FORECASTER_BAD_HORIZON : sigma2s[k] > ONE ? FORECASTER_BAD_SIGMA2 : room < h ? 12 : 0;
+                        st = plain(models[i], seasonal(models[i]) ? periods[j] : 0), st.l = -7654321;
+                        n = ref_group(&st, bytes);
+                        expect(try_relative(bytes, n, h, sigma2s[k], room) == (models[i] & RELATIVE ? code : FORECASTER_OUT_OF_PLACE),
+                               "horizon, variance and room");
+                    }
+    what = "a variance that is not finite";
+    for (int sign = -1; sign <= 1; sign += 2)
+        for (uint32_t over = 0; over <= 1; over++) {
+            int code = over ? FORECASTER_NOT_FINITE : 0;
+            st = (struct ref_state){.model = 9, .A = 65536, .B = 65536, .F = 65536, .l = sign * range, .b = sign * range};
+            n = ref_group(&st, bytes);
+            expect(try_relative(bytes, n, 375 + over, ONE, 512) == code, "S and theta leave the doubles");
+            expect(try_relative(bytes, n, 376, ONE, 375) == 12, "12 comes before 19");
+            st.l = st.b = sign * INT64_C(640000000000);
+            n = ref_group(&st, bytes);
+            expect(try_relative(bytes, n, 491 + over, HALF, 512) == code, "S leaves the doubles");
+            st = (struct ref_state){.outside = 1, .model = 13, .m = 2, .A = 65536, .B = 65536, .G = 65536, .F = 65536};
+            st.l = st.b = st.s[0] = st.s[1] = sign * range;
+            n = ref_group(&st, bytes);
+            expect(try_relative(bytes, n, 351 + over, ONE, 352) == code, "the answer leaves the doubles");
+        }
+    what = "a weight of relative errors";
+    for (int i = 0; i < MODELS; i++) {
+        st = plain(models[i], seasonal(models[i]) ? 3 : 0);
+        n = ref_group(&st, bytes);
+        int other = models[i] & RELATIVE ? FORECASTER_OUT_OF_PLACE : FORECASTER_BAD_HORIZON;
+        expect(try_weight(bytes, n, 0) == other && try_groups(bytes, n, 513, 0) == other, "3 comes before 11 and 12");
+    }
     what = "the groups of a weight";
     for (int i = 0; i < MODELS; i++)
         for (int m = seasonal(models[i]) ? 2 : 0; m <= (seasonal(models[i]) ? 48 : 0); m++)
             for (uint32_t h = 0; h <= 514; h += h < 100 ? 1 : 23)
                 for (size_t room = (size_t)(m > 2 ? m - 2 : 0); room <= (size_t)m + 2; room++) {
                     int code = h == 0 || h > 512 ? FORECASTER_BAD_HORIZON : room < (size_t)(m ? m : 1) ? 12 : 0;
+                    if (models[i] & RELATIVE)
+                        code = FORECASTER_OUT_OF_PLACE;
                     st = plain(models[i], m);
                     n = ref_group(&st, bytes);
                     expect(try_groups(bytes, n, h, room) == code, "horizon and room");
@@ -931,6 +1025,11 @@ static void damaged_groups(int rounds) {
             try_forecasts(bytes, n, horizon, pick(0, 9) == 0 ? (size_t)pick(0, 600) : horizon);
             try_weight(bytes, n, (uint32_t)pick(0, 600));
             try_groups(bytes, n, (uint32_t)pick(0, 600), pick(0, 9) == 0 ? (size_t)pick(0, 50) : 48);
+            horizon = (uint32_t)(pick(0, 99) == 0 ? pick(0, 600) : pick(1, 60));
+            uint64_t sigma2 = pick(0, 19) == 0 ? random64() : random64() % (ONE + 1); /* the bits of a double of any size */
+            if (pick(0, 1))
+                sigma2 = ONE - random64() % (UINT64_C(1) << 56); /* or of one that is not small */
+            try_relative(bytes, n, horizon, sigma2, pick(0, 9) == 0 ? (size_t)pick(0, 600) : horizon);
         }
         switch (pick(0, 4)) {
         case 0:
@@ -942,6 +1041,33 @@ static void damaged_groups(int rounds) {
             break;
         default:
             try_missing(bytes, n);
+        }
+    }
+}
+
+/* ---- relative errors (W-205): every call of the station on a group with bit 3 does what it does on the one without */
+static void same_numbers(int rounds) {
+    what = "a group with relative errors";
+    for (int i = 0; i < rounds; i++) {
+        struct ref_state st = random_state();
+        uint8_t bytes[MOST], other[MOST];
+        st.model &= ~RELATIVE;
+        size_t n = ref_group(&st, bytes);
+        st.model |= RELATIVE;
+        ref_group(&st, other);
+        uint32_t horizon = (uint32_t)pick(1, 512);
+        int32_t reading = (int32_t)pick(-1000000, 1000000);
+        int code = try_forecast(bytes, n, horizon);
+        int64_t forecast = number;
+        expect(try_forecast(other, n, horizon) == code && number == forecast, "another forecast");
+        for (int call = STEP; call <= SWITCH; call++) {
+            code = rewrite(call, bytes, n, reading);
+            int64_t e = number;
+            expect(rewrite(call, other, n, reading) == code && (call != STEP || number == e), "another answer");
+            expect(other[1] == (bytes[1] | RELATIVE), "another model");
+            other[1] = bytes[1];
+            expect(memcmp(bytes, other, n) == 0, "other numbers");
+            other[1] |= RELATIVE;
         }
     }
 }
@@ -1013,6 +1139,7 @@ int main(void) {
     scores();
     operands();
     damaged_groups(200000);
+    same_numbers(20000);
     what = "a long run";
     for (int i = 0; i < MODELS; i++)
         if (!seasonal(models[i]))

@@ -1,5 +1,6 @@
 """Calls that no stream reaches, for the program `calls`: states handed in directly, batches, all horizons, the bedside
-display's forecasts, weights, also by time of day, short slices, groups read from a slice. Nothing here is random.
+display's forecasts, weights, also by time of day, variances of relative errors, short slices, groups read from a slice. Nothing
+here is random.
 
 The program reads records and writes a line for each. A record is an operation's byte, the state that the call is made on
 (none where a group is read), and the call's operands; low byte first, signed numbers in two's complement, lengths of 32 bits.
@@ -18,6 +19,8 @@ The program reads records and writes a line for each. A record is an operation's
     13 switch      to ties to even (W-211)
     14 in place    the same on a lent slice: a length and as many bytes; an old group becomes a new one there (W-204)
     15 groups      of a weight (W-210): the length of the unsigned cells lent, for a horizon
+    16 relative    variance (W-205): the length of the doubles lent, for a horizon, with the 64 bits of a double for the residuals' variance
+    17 coefficients, C for 1 to a horizon: the length of the unsigned cells lent, for a horizon
 
 A state is a length and as many season cells of 64 bits, the others being 0; 1 where command 18 opened it, or 0, model and m, a byte each; A, B, G, F of 32 bits;
 l and b of 64 bits; p, a byte; count, the score's readings, high and low word (W-204), of 64 bits each.
@@ -26,16 +29,16 @@ A line is the operation, the refusal or 0, and what the call gives, each number 
 missing reading, a batch, a switch and a read give a state, with all its season cells after the score; a save gives the bytes that the
 state needs or its refusal; a read gives, after the state, the refusal once more and the rest of the bytes, which after a
 refusal begins with the refused command. The cells lent stand last. They start as 77, so that what a call leaves untouched is
-seen.
+seen. A double is the unsigned number of its 64 bits.
 """
 
 from dataclasses import replace
 
 import forecaster as f
 from forecaster import State
-from streams import C, COUNTS, MODELS, PARAMETERS, TO_EVEN, V, VALUES, WORD32, WORD64, cells, edge_gains, edge_scores, nominal, old, opened, scored
+from streams import BAD_SIGMA2S, C, COUNTS, MODELS, ONE, PARAMETERS, RELATIVES, SIGMA2S, TO_EVEN, V, VALUES, WORD32, WORD64, cells, edge_gains, edge_scores, near_zero, nominal, old, opened, overflowing, scored
 
-READ, CHECK, STEP, MISSING, BATCH, FORECAST, FORECASTS, WEIGHT, VARIANCE, SAVE, DISPLAY_FORECAST, DISPLAY_FORECASTS, SWITCH, SWITCH_IN_PLACE, WEIGHT_GROUPS = range(1, 16)
+READ, CHECK, STEP, MISSING, BATCH, FORECAST, FORECASTS, WEIGHT, VARIANCE, SAVE, DISPLAY_FORECAST, DISPLAY_FORECASTS, SWITCH, SWITCH_IN_PLACE, WEIGHT_GROUPS, RELATIVE_VARIANCE, COEFFICIENTS = range(1, 18)
 UNTOUCHED = 77
 
 
@@ -163,6 +166,16 @@ class Script:
     def variance(self, h, sigma2):
         self.play(VARIANCE, numbers(4, h, sigma2), attempted(lambda: f.variance(self.state, h, sigma2)))
 
+    def relative_variance(self, h, sigma2, room):
+        filled = [float(UNTOUCHED)] * room
+        found = attempted(lambda: [f.bits(f.relative_variance(self.state, h, sigma2, filled))])
+        self.play(RELATIVE_VARIANCE, numbers(4, room, h) + numbers(8, sigma2), found + [f.bits(value) for value in filled])
+
+    def coefficients(self, h, room):
+        filled = [UNTOUCHED] * room
+        found = attempted(lambda: f.coefficients(self.state, h, filled) or [])
+        self.play(COEFFICIENTS, numbers(4, room, h), found + filled)
+
     def save(self, room):
         filled = bytearray([UNTOUCHED] * room)
         found = attempted(lambda: [f.save(self.state, filled)])
@@ -190,12 +203,14 @@ class Script:
         self.weight(3)
         self.variance(3, 5)
         self.weight_groups(3, 50)
+        self.relative_variance(3, SIGMA2S[0], 4)
+        self.coefficients(3, 4)
         self.save(600)
 
 
 def refused_states(t):
     """Checks 5, 6, 7, 16, 9, 10, 17 of a state handed in directly, one fault at a time."""
-    for model in (3, 7, 8, 255):
+    for model in (3, 7, *range(8, 17), 0x20, 0x28, 0x29, *range(0x48, 0x51), 0x68, 0x88, 255):
         t.use(replace(nominal(0), model=model))
         t.check()
     for model in MODELS:
@@ -259,6 +274,8 @@ def first_fault(t):
         t.weight(513)
         t.variance(513, 0)
         t.weight_groups(513, 0)
+        t.relative_variance(513, WORD64, 0)
+        t.coefficients(513, 0)
         t.save(0)
 
 
@@ -382,6 +399,83 @@ def weights_by_index(t):
     t.weight_groups(3, 3)
 
 
+def relative_variances(t):
+    """W-205: the variance of every model with relative errors by both rules; σ² and horizon at their edges, and both refused;
+    cells too few, just enough and more; forecasts of 0 and below it; 19, after 12, with the cells as found."""
+    for model in RELATIVES:
+        for rule, m in (0, 2), (f.EVEN, 7):
+            t.use(nominal(model | rule, m))
+            for h in (1, 2, 3, 24, 60):
+                t.relative_variance(h, SIGMA2S[0], h)
+        t.use(nominal(model))
+        for room in (0, 2, 3, 5):
+            t.relative_variance(3, f.bits(0.25), room)
+        for sigma2 in SIGMA2S + BAD_SIGMA2S if model in (8, 14) else (ONE, ONE + 1):
+            t.relative_variance(4, sigma2, 4)
+        for h in (0, 1, 513, WORD32):
+            for sigma2 in (SIGMA2S[0], WORD64):
+                t.relative_variance(h, sigma2, 0)
+    for x in near_zero():
+        t.use(x)
+        for sigma2 in (1, 2**52, SIGMA2S[0], ONE):
+            t.relative_variance(10, sigma2, 10)
+    t.use(nominal(14, 24))
+    t.relative_variance(512, SIGMA2S[0], 512)
+    *_, (x, sigma2, h) = overflowing()
+    t.use(x)
+    t.relative_variance(h - 1, sigma2, h - 1)
+    for room in (0, h):
+        t.relative_variance(h, sigma2, room)
+
+
+def relative_errors(t):
+    """W-205: every call on each model with relative errors, by both commands that open one, switched, read and saved; a call for
+    the variance that a model does not have is told after the state's checks, each with all those after it, before 11, 18, 12."""
+    for model in RELATIVES:
+        for x in (nominal(model), opened(replace(nominal(model, 3), A=100, G=65500 if model & 4 else 0))):
+            t.use(x)
+            t.everything()
+            t.batch([20, f.SENTINEL, 1_000_001], 3)
+            for change in (lambda: t.step(21), t.missing, t.switch, lambda: t.step(-3)):
+                change()
+                t.keep()
+            t.save(104)
+            t.relative_variance(5, SIGMA2S[0], 5)
+            for group in (f.group_bytes(t.state), old(x) + bytes(25)):
+                t.read(group)
+                t.switch_in_place(group)
+    for model in MODELS + RELATIVES:
+        t.use(nominal(model))
+        for h in (0, 1, 513):
+            t.weight(h)
+            t.variance(h, 7)
+            t.weight_groups(h, 0)
+            t.relative_variance(h, WORD64, 0)
+        t.weight_groups(3, 3)
+        t.relative_variance(3, SIGMA2S[0], 3)
+    for k in range(len(FAULTS)):
+        for base in (nominal(5), nominal(13)):
+            x = base
+            for fault in FAULTS[k:]:
+                x = replace(x, **fault)
+            t.use(replace(x, model=x.model | base.model & f.RELATIVE))
+            t.weight(0)
+            t.variance(0, 0)
+            t.weight_groups(0, 0)
+            t.relative_variance(0, WORD64, 0)
+            t.coefficients(0, 0)
+
+
+def coefficients(t):
+    """C of every model, by both rules and with relative errors; cells too few, just enough and more; 11 before 12."""
+    for model in MODELS + TO_EVEN + RELATIVES:
+        t.use(nominal(model, 7))
+        for h, room in (1, 1), (2, 2), (3, 5), (24, 23), (60, 60), (0, 0), (0, 2), (1, 0), (513, 0), (WORD32, 2):
+            t.coefficients(h, room)
+    t.use(opened(State(model=5, m=2, A=65536, B=65536, G=65536, F=65536)))
+    t.coefficients(512, 512)
+
+
 def groups(t):
     """Saves into slices too short, just long enough and longer; groups read from slices, with bytes after them."""
     for model in MODELS:
@@ -396,7 +490,7 @@ def groups(t):
             t.keep()
             t.save(551)
     t.read(b"")
-    for byte in (0x00, 0x10, 0x11, 0x12, 0x13, 0x15, 0x16, 0x18, 0x20, 0x21, 0x30, 0x31, 0x40, 0x41, 0xFF):
+    for byte in (0x00, 0x10, 0x11, 0x12, 0x13, 0x15, 0x16, 0x18, 0x20, 0x21, 0x30, 0x31, 0x32, 0x33, 0x40, 0x41, 0xFF):
         t.read(bytes([byte]))
     saved = f.group_bytes(nominal(5))
     for end in range(len(saved)):
@@ -531,7 +625,7 @@ def lent(t):
 
 def script():
     t = Script()
-    for part in (refused_states, first_fault, steps, batches, horizons, weights_by_index, groups, outside_region, rules, scores, lent):
+    for part in (refused_states, first_fault, steps, batches, horizons, weights_by_index, relative_variances, relative_errors, coefficients, groups, outside_region, rules, scores, lent):
         part(t)
     return t
 

@@ -4,11 +4,11 @@ from dataclasses import replace
 
 import forecaster as f
 from forecaster import State
-from streams import C, COUNTS, MODELS, UNKNOWN, V, WORD64, edge_gains, opened, scored
+from streams import BAD_SIGMA2S, C, COUNTS, MODELS, ONE, SIGMA2S, UNKNOWN, V, WORD64, edge_gains, opened, scored
 
 EDGES = {
     0x10: [
-        [0, 1, 2, 3, 4, 5, 6, 7, 8, 64, 67, 70, 72, 255],
+        [0, 1, 2, 3, 4, 5, 6, 7, 8, 9, 11, 14, 15, 16, 40, 64, 67, 70, 72, 75, 78, 255],
         [0, 1, 2, 3, 47, 48, 49, 255],
         *[[0, 1, 2, 32767, 32768, 65535, 65536, 65537, 2**32 - 1]] * 4,
     ],
@@ -18,6 +18,7 @@ EDGES = {
     0x20: [[0, 1, -1, 999_999, 1_000_000, 1_000_001, -1_000_000, -1_000_001, f.SENTINEL, 2**31 - 1]],
     0x30: [[0, 1, 2, 47, 48, 49, 511, 512, 513, 65535]],
     0x31: [[0, 1, 2, 48, 511, 512, 513, 65535], [0, 1, 65536, 2**32 - 1]],
+    0x32: [[0, 1, 2, 48, 511, 512, 513, 65535], SIGMA2S + BAD_SIGMA2S],
     0x14: [],
     0x15: [[0, 1, 2, 4096, C, C + 1, WORD64], [0, 1, 2**36, WORD64], [0, 1, f.SQUARE_LIMIT, f.SQUARE_LIMIT + 1, WORD64]],
     0x21: [],
@@ -61,7 +62,7 @@ def state(rng):
     gains = (parameter(rng), parameter(rng) if trend else 0, parameter(rng) if seasonal else 0)
     A, B, G = gains if rng.random() < 0.8 else rng.choice(GAINS[model])
     found = State(
-        model=model | rng.choice([0, 0, f.EVEN]),
+        model=model | rng.choice([0, 0, f.EVEN]) | rng.choice([0, 0, f.RELATIVE]),
         m=m,
         A=A,
         B=B,
@@ -81,9 +82,16 @@ def group(rng, x):
     return [c for c in f.group(x) if c[0] != 0x15 or rng.random() < 0.75]
 
 
-def command(rng, reading_limit):
-    """A command outside a group, with operands that pass."""
+def sigma2(rng):
+    """The bits of a relative σ² that passes, and now and then any (W-205)."""
+    return rng.choice([*SIGMA2S, rng.randint(0, ONE), *[f.bits(rng.random())] * 9, rng.getrandbits(64)])
+
+
+def command(rng, reading_limit, relative):
+    """A command outside a group, with operands that pass; the variance is now and then that of the other errors (W-205)."""
     kind = rng.choice([0x20] * 6 + [0x14, 0x21, 0x30, 0x30, 0x31, 0x40])
+    if kind == 0x31 and relative != (rng.random() < 0.02):
+        kind = 0x32
     horizon = lambda: rng.choice([1, 2, 3, rng.randint(1, 60), rng.randint(1, 512), 512])
     if kind == 0x20:
         return (kind, signed(rng, reading_limit))
@@ -91,6 +99,8 @@ def command(rng, reading_limit):
         return (kind, horizon())
     if kind == 0x31:
         return (kind, horizon(), magnitude(rng, 2**32 - 1))
+    if kind == 0x32:
+        return (kind, horizon(), sigma2(rng))
     return (kind,)
 
 
@@ -101,9 +111,10 @@ def commands(rng):
         x = None
         if turn > 0 and rng.random() < 0.5:
             x = f.play(b"".join(f.encode(*c) for c in found))[1]
-        found += group(rng, x or state(rng))
+        x = x or state(rng)
+        found += group(rng, x)
         limit = rng.choice([3, 30, 3000, f.READING_LIMIT])
-        found += [command(rng, limit) for _ in range(rng.choice([0, 1, 3, 8, 20, 60]))]
+        found += [command(rng, limit, x.relative) for _ in range(rng.choice([0, 1, 3, 8, 20, 60]))]
     return found
 
 

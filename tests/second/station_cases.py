@@ -1,5 +1,7 @@
-"""Document 01's station cases T1 to T12, T1 by the other rounding rule (W-211), and the score of T5 and T6 and in their groups
-(W-204), of the second implementation."""
+"""Document 01's station cases T1 to T12, T1 by the other rounding rule (W-211), the score of T5 and T6 and in their groups
+(W-204), and T3 and T5 with relative errors (W-205), of the second implementation."""
+
+from dataclasses import replace
 
 import forecaster as f
 from forecaster import State
@@ -13,6 +15,12 @@ def code(call, *arguments):
     except f.Rejected as r:
         return r.code
     return 0
+
+
+def relative(x, h, sigma2):
+    """The variance of relative errors and the cells lent, of which the last stays."""
+    lent = [77.0] * (h + 1)
+    return f.relative_variance(x, h, f.bits(sigma2), lent), lent
 
 
 def hold():
@@ -37,6 +45,13 @@ def hold():
     yield "17", [code(f.check, State(count=2, readings=n, low=low)) for n, low in ((2, 2**53), (2, 2**53 + 1), (3, 0))] == [0, 17, 17]
     yield "T7", f.weight(straight, 3) == 11005853696
     yield "T8", f.weight(seasonal, 3) == 6979321856
+    relative3, relative5 = replace(after3, model=9), replace(after5, model=12)
+    yield "T3 and T5, relative errors", [f.step(replace(straight, model=9), 3)[0], f.step(replace(seasonal, model=12), 5)[0]] == [relative3, relative5]
+    # By hand, no operation of which is rounded: μ is 3.5, 5, 6.5 and c 0.75, 1; then μ is 0, 4, 0 and c 0.25, 0.75.
+    yield "T3, the variance of 3", relative(relative3, 3, 0.5) == (42.3128662109375, [12.25, 28.4453125, 56.375244140625, 77.0])
+    yield "T5, the variance of 3", relative(relative5, 3, 0.5) == (0.75, [0.0, 16.0, 0.5, 77.0])
+    yield "3", [code(f.weight, relative3, 3), code(relative, after3, 3, 0.5)] == [3, 3]
+    yield "18", [code(relative, relative3, 3, sigma2) for sigma2 in (1.0, 1.0000000000000002, -0.0)] == [0, 18, 18]
     yield "T9", [code(f.check, State(model=3)), code(f.check, State(model=6, m=2, F=1))] == [5, 0]
     yield "T10", [code(f.step, first, y) for y in (1_000_000, 1_000_001)] == [0, 13]
     yield "T11 level", [code(f.check, State(l=l)) for l in (2**40, 2**40 + 1)] == [0, 9]

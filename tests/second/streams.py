@@ -14,9 +14,15 @@ WORD32 = 2**32 - 1
 LOW64, HIGH64 = -(2**63), 2**63 - 1
 WORD64 = 2**64 - 1
 
-UNKNOWN = [0x00, 0x01, 0x0F, 0x16, 0x17, 0x19, 0x1F, 0x22, 0x2F, 0x32, 0x3F, 0x41, 0x80, 0xFF]
+UNKNOWN = [0x00, 0x01, 0x0F, 0x16, 0x17, 0x19, 0x1F, 0x22, 0x2F, 0x33, 0x3F, 0x41, 0x80, 0xFF]
 MODELS = [0, 1, 2, 4, 5, 6]
 TO_EVEN = [model | f.EVEN for model in MODELS]
+RELATIVES = [model | f.RELATIVE for model in MODELS]
+
+# The bits of a relative σ² (W-205): those that pass, 0.04 first, and those that 18 refuses: above 1.0, infinite, no number, negative.
+ONE = f.bits(1.0)
+SIGMA2S = [f.bits(0.04), 0, 1, 2**52 - 1, 2**52, f.bits(0.25), f.bits(0.5), ONE - 1, ONE]
+BAD_SIGMA2S = [ONE + 1, f.bits(2.0), 0x7FEF_FFFF_FFFF_FFFF, 0x7FF0 << 48, (0x7FF0 << 48) + 1, 0x7FF8 << 48, f.bits(-0.0), f.bits(-0.04), f.bits(-1.0), 0xFFF0 << 48, WORD64]
 
 
 def join(*parts):
@@ -69,6 +75,12 @@ def readings(n, start=21):
 
 
 QUESTIONS = [(0x30, 1), (0x30, 2), (0x30, 7), (0x31, 1, 1), (0x31, 3, 4), (0x31, 9, WORD32), (0x40,)]
+RELATIVE_QUESTIONS = [(0x30, 1), (0x30, 2), (0x30, 7), (0x32, 1, ONE), (0x32, 3, f.bits(0.25)), (0x32, 9, f.bits(0.04)), (0x40,)]
+
+
+def questions(model):
+    """Those with the variance that the model's errors have (W-205)."""
+    return RELATIVE_QUESTIONS if model & f.RELATIVE else QUESTIONS
 
 
 def document():
@@ -96,10 +108,11 @@ def document():
 
 def models():
     """Every model, with season lengths at both ends of their range."""
-    for model in MODELS:
+    for model in MODELS + RELATIVES:
         for m in (2, 3, 7, 48) if model & 4 else (0,):
             x = nominal(model, m)
-            yield join(f.group_bytes(x), *QUESTIONS, *readings(3 * max(m, 4)), *QUESTIONS, (0x30, 512), (0x31, 512, WORD32))
+            farthest = (0x32, 512, SIGMA2S[0]) if x.relative else (0x31, 512, WORD32)
+            yield join(f.group_bytes(x), *questions(model), *readings(3 * max(m, 4)), *questions(model), (0x30, 512), farthest)
             for p in (0, 1, m - 1) if m else (0,):
                 yield join(f.group_bytes(replace(x, p=p)), *[(0x30, h) for h in range(1, 6)], (0x30, m + 1), (0x30, 2 * m + 3))
 
@@ -111,10 +124,10 @@ COUNTS = (0, 1, C - 1, C, C + 1, 2**64 - 1)
 
 def edges():
     """Each number of a state at the edges of its range and just outside, for every model; the other numbers stay."""
-    for model in range(9):
+    for model in range(17):
         for m in (0, 1, 2, 3, 48, 49, 255):
             yield join((0x10, model, m, 5, 0, 0, [0, 65536, 1, 0][model & 3]))
-    for model in (7, 8, 16, 64, 67, 68, 71, 72, 96, 128, 132, 192, 255):
+    for model in (24, 32, 40, 41, 64, 67, 68, 71, 72, 75, 76, 79, 80, 96, 104, 128, 132, 136, 192, 255):
         yield join((0x10, model, 0, 0, 0, 0, 0))
     for model in MODELS:
         x = nominal(model)
@@ -191,10 +204,16 @@ def order():
 
 def gaps():
     """Missing readings one after another, of every model, with the forecasts before and after each; and a gap that is read again."""
-    for model in MODELS:
+    for model in MODELS + RELATIVES:
         for x in (nominal(model, 3), replace(nominal(model, 3), F=[0, 65536, 1][model & 3], b=[0, 70_001, 32_768][model & 3])):
             asked = [(0x30, h) for h in (1, 2, 3, 4, 5)]
             yield join(f.group_bytes(x), *asked, *([(0x21,), *asked, (0x40,)] * 4), (0x20, 20), *asked, (0x21,), (0x20, 21), (0x40,))
+
+
+def tied(model):
+    """A state of the model whose shares are ties: gains and damping of a half, odd numbers."""
+    x, trend = nominal(model, 3), model & 3
+    return replace(x, A=32768, B=[0, 32768, 16384][trend], G=32768 if x.m else 0, F=[0, 65536, 32768][trend], l=7, b=[0, 3, 5][trend], s=cells(1, -3, 5) if x.m else cells())
 
 
 def even():
@@ -206,7 +225,7 @@ def even():
             yield join(f.group_bytes(State(A=1, l=-v)), *switch, (0x20, 0), (0x40,))
     for model in MODELS:
         plain = nominal(model, 3)
-        half = replace(plain, A=32768, B=[0, 32768, 16384][model & 3], G=32768 if plain.m else 0, F=[0, 65536, 32768][model & 3], l=7, b=[0, 3, 5][model & 3], s=cells(1, -3, 5) if plain.m else cells())
+        half = tied(model)
         for x in (plain, half, replace(half, l=-8, A=16384, B=[0, 8192, 16384][model & 3], G=49152 if plain.m else 0)):
             asked = [(0x30, 1), (0x30, 4), (0x30, 9), (0x31, 5, 3), (0x31, 12, 1), (0x40,)]
             run = [c for k in range(8) for c in ((0x21,) if k % 5 == 3 else (0x20, (k * 7) % 5 - 2), (0x30, 2))]
@@ -281,12 +300,12 @@ def squares():
 def old_groups():
     """W-204: groups without 15, which open with the score at 0 and save in the new form; 15 at each place of such a group
     and after it, once and twice; each unknown byte of a list, and each command byte, in the place of the right one."""
-    for model in MODELS:
+    for model in MODELS + RELATIVES:
         x = nominal(model, 3)
         outside = opened(replace(x, B=65536 if model & 3 else 0, G=65536 if model & 4 else 0))
         for y in (x, outside, replace(x, model=model | f.EVEN)):
             group = old(y)
-            yield join(group, (0x40,), *readings(9), (0x40,), *QUESTIONS, group, (0x21,), (0x40,))
+            yield join(group, (0x40,), *readings(9), (0x40,), *questions(model), group, (0x21,), (0x40,))
             saved = f.group_bytes(f.play(join(group, *readings(9)))[1])
             yield join(saved, *readings(4), (0x40,), saved, (0x40,), group, *readings(2), (0x40,))
         for bad in dict(l=V + 1), dict(s=cells(V + 1)), dict(p=9), dict(count=0), dict(count=C), dict(count=C + 1):
@@ -370,6 +389,65 @@ def region():
         yield f.group_bytes(State(A=A, opener=0x18))
 
 
+def near_zero():
+    """W-205: states whose forecast for 10 is 0, so that θ of 10 is σ² × S alone, or near 0, or below it, or always 0."""
+    for l, b in (0, 0), (655_360, -65_536), (655_360, -65_537), (-655_360, 0), (-V, -V), (1, 0), (-1, 0):
+        yield State(model=9, A=30_001, B=7_001, F=65536, l=l, b=b)
+
+
+def overflowing():
+    """W-205: states, each with a σ² and the first horizon of refusal 19: what leaves the doubles is S, and θ would too; S alone, half
+    of which would not; the answer alone, of a θ that is finite."""
+    straight = State(model=9, A=65536, B=65536, F=65536, l=V, b=V)
+    yield straight, ONE, 376
+    yield replace(straight, l=640_000_000_000, b=640_000_000_000), f.bits(0.5), 492
+    yield opened(State(model=13, m=2, A=65536, B=65536, G=65536, F=65536, l=V, b=V, s=cells(V, V))), ONE, 352
+
+
+def relative():
+    """W-205: 32 by every model with relative errors and both rules; its horizon and σ² at their edges, 11 before 18; 31 and 32 of
+    the other models, 3 before 11 and 18; 14 among the readings, saved and opened again; groups of both kinds by turns; forecasts
+    of 0 and below, σ² and θ that are not normal; 19 at its edges."""
+    for model in RELATIVES:
+        for rule in (0, f.EVEN):
+            yield join(f.group_bytes(nominal(model | rule, 3)), *[(0x32, h, SIGMA2S[0]) for h in (1, 2, 3, 48, 512)])
+        group = f.group_bytes(nominal(model))
+        yield join(group, *[(0x32, h, sigma2) for h in (1, 3, 7) for sigma2 in SIGMA2S])
+        for sigma2 in BAD_SIGMA2S:
+            yield join(group, (0x32, 3, sigma2))
+        for h in (0, 513, 65535):
+            for sigma2 in (SIGMA2S[0], WORD64):
+                yield join(group, (0x32, h, sigma2))
+        for h in (0, 3):
+            yield join(group, (0x31, h, 4))
+        half, run = f.group_bytes(tied(model)), readings(9)
+        for at in (0, 4, 9):
+            yield join(half, *run[:at], (0x14,), *run[at:], *RELATIVE_QUESTIONS)
+        saved = f.group_bytes(f.play(join(half, (0x14,), *run))[1])
+        assert saved[1] == model | f.EVEN
+        yield join(saved, *RELATIVE_QUESTIONS, saved, (0x40,))
+        yield join(saved, half[:1] + b"\x0b" + half[2:])
+    for model in MODELS + TO_EVEN:
+        for command in (0x32, 3, SIGMA2S[0]), (0x32, 0, SIGMA2S[0]), (0x32, 3, WORD64):
+            yield join(f.group_bytes(nominal(model)), command)
+    plain, other = f.group_bytes(nominal(5)), f.group_bytes(nominal(13))
+    for first, then in (plain, other), (other, plain):
+        turns = [c for group in (first, then, first) for c in (group, (0x20, 20), *questions(group[1]))]
+        yield join(*turns, *questions(then[1]))
+        yield join(first, *questions(first[1]), then[:-1])
+    for x in near_zero():
+        yield join(f.group_bytes(x), *[(0x32, h, sigma2) for h in (1, 2, 10, 11) for sigma2 in SIGMA2S])
+    for x, sigma2, h in overflowing():
+        for sign in (1, -1):
+            y = replace(x, l=sign * x.l, b=sign * x.b, s=tuple(sign * value for value in x.s))
+            stream = join(f.group_bytes(y), (0x32, h - 1, sigma2), (0x32, h, sigma2))
+            assert f.play(stream)[0][-1].startswith("X 19 ")
+            yield stream
+        yield join(f.group_bytes(x), (0x32, 512, sigma2))
+        yield join(f.group_bytes(x), (0x32, 512, sigma2 - 1))
+        yield join(f.group_bytes(x), (0x32, 512, SIGMA2S[0]), (0x32, 512, 0))
+
+
 def places():
     """At every command of a stream: each unknown byte of a list, and each command byte in the place of the right one.
 
@@ -391,16 +469,18 @@ def places():
     for byte in range(256):
         yield bytes([byte])
         yield f.group_bytes(State()) + bytes([byte])
+    for byte in UNKNOWN + list(f.OPERANDS):
+        yield f.group_bytes(State(model=f.RELATIVE)) + bytes([byte])
 
 
 def saves():
     """A save reopened: the group that was saved is opened in the same stream and in a new one."""
-    for model in MODELS:
+    for model in MODELS + RELATIVES:
         x = nominal(model, 5)
         stream = join(f.group_bytes(x), *readings(13), (0x40,))
         lines, _ = f.play(stream)
         saved = bytes.fromhex(lines[-2][2:])
-        later = join(*readings(6, 25), *QUESTIONS)
+        later = join(*readings(6, 25), *questions(model))
         yield stream + later
         yield stream + saved + later
         yield saved + later
@@ -408,11 +488,17 @@ def saves():
 
 
 def damaged():
-    """One byte of a short stream changed, at every place: its lowest bit, its highest, and set to 0 and 255."""
-    stream = join(f.group_bytes(nominal(6)), (0x20, 19), (0x21,), (0x30, 3), (0x31, 2, 4), (0x40,))
-    for at, byte in enumerate(stream):
-        for new in sorted({byte ^ 1, byte ^ 0x80, 0, 255} - {byte}):
-            yield stream[:at] + bytes([new]) + stream[at + 1 :]
+    """One byte of a short stream changed, at every place: its lowest bit, its highest, and set to 0 and 255. Of a relative
+    model's only the bytes of command 32 are (W-205)."""
+    group = f.group_bytes(nominal(14))
+    for stream, start in (
+        (join(f.group_bytes(nominal(6)), (0x20, 19), (0x21,), (0x30, 3), (0x31, 2, 4), (0x40,)), 0),
+        (join(group, (0x32, 2, SIGMA2S[0])), len(group)),
+    ):
+        for at in range(start, len(stream)):
+            byte = stream[at]
+            for new in sorted({byte ^ 1, byte ^ 0x80, 0, 255} - {byte}):
+                yield stream[:at] + bytes([new]) + stream[at + 1 :]
 
 
 def cut():
@@ -424,13 +510,16 @@ def cut():
     yield join(old(nominal(0)), old(nominal(5)), (0x20, 20), (0x40,))
     yield join(f.group_bytes(nominal(2 | f.EVEN)), (0x20, 20), (0x14,), (0x40,))
     yield join(f.group_bytes(opened(replace(nominal(5), A=0))), (0x40,), f.group_bytes(nominal(0)))
+    # 4 of the variance that the model has, 3 of the other (W-205).
+    yield join(f.group_bytes(nominal(0)), (0x31, 2, 4), (0x32, 2, SIGMA2S[0]))
+    yield join(f.group_bytes(nominal(14)), (0x20, 20), (0x32, 2, SIGMA2S[0]), (0x14,), (0x31, 2, 4))
 
 
 def long_runs():
     """Many readings, and the longest inputs: 65,536 bytes, cut in their last command, and 65,537."""
-    for model in MODELS:
+    for model in MODELS + [14]:
         x = nominal(model, 24)
-        asked = [(0x30, 1), (0x30, 48), (0x30, 512), (0x31, 48, 9), (0x40,)]
+        asked = [(0x30, 1), (0x30, 48), (0x30, 512), (0x32, 48, SIGMA2S[0]) if x.relative else (0x31, 48, 9), (0x40,)]
         run = readings(300)
         yield join(f.group_bytes(x), *run[:100], *asked, *run[100:200], *asked, *run[200:], *asked)
     start = f.group_bytes(replace(nominal(0), A=1311))
@@ -463,7 +552,7 @@ def longest():
     yield whole + whole
 
 
-PLAYED = [document, models, edges, operands, order, gaps, even, scores, squares, old_groups, leaving, region, places, saves, damaged, long_runs]
+PLAYED = [document, models, edges, operands, order, gaps, even, scores, squares, old_groups, leaving, region, relative, places, saves, damaged, long_runs]
 
 
 def records():

@@ -41,7 +41,8 @@ class Picture:
 
 
 def second(text_stream):
-    """Readings, levels and residuals of a stream, and the state after it, by the second implementation."""
+    """Readings, levels and residuals of a stream, those of relative errors as shares of their forecasts, and the state after it, by
+    the second implementation."""
     x, at = f.read_group(text_stream)
     readings, levels, residuals = [], [], []
     while at < len(text_stream):
@@ -52,7 +53,7 @@ def second(text_stream):
             continue
         if reading:
             x, e = f.step(x, *found)
-            residuals.append(e / 65536)
+            residuals.append(e / (65536 * found[0] - e) if x.relative else e / 65536)
         else:
             x = f.missing(x)
         readings.append(found[0] if reading else None)
@@ -63,6 +64,11 @@ def second(text_stream):
 def score_of(x, scale):
     root = f"{round(math.sqrt(x.sum / x.readings) / scale, 4):.6g}"
     return f"root mean square {root} over {x.readings} reading{'s' * (x.readings != 1)}"
+
+
+def variance_of(x, h, sigma2):
+    """The variance for a horizon, in the station's units."""
+    return f.relative_variance(x, h, f.bits(sigma2), [0.0] * h) if x.relative else f.weight(x, h) / 2**32 * sigma2
 
 
 def draw(folder, text, *words, **how):
@@ -82,7 +88,7 @@ def check_numbers(folder, text, scale, horizon, *words, sigma2=None):
     forecasts = [f.forecast(x, h) / 65536 / scale for h in range(1, horizon + 1)]
     picture.near("forecast", forecasts)
     sigma2 = sum(e * e for e in residuals) / len(residuals) if sigma2 is None else sigma2
-    spread = [math.sqrt(f.weight(x, h) / 2**32 * sigma2) / scale for h in range(1, horizon + 1)]
+    spread = [math.sqrt(variance_of(x, h, sigma2)) / scale for h in range(1, horizon + 1)]
     for many in (1, 2):
         above = [y + many * d for y, d in zip(forecasts, spread)]
         below = [y - many * d for y, d in zip(forecasts, spread)]
@@ -106,6 +112,39 @@ def straight(folder):
     text = "model straight alpha 0.5 beta 0.1\nlevel -20\nreading -18\nreading -14\nmissing\nreading -19\n"
     picture, _ = check_numbers(folder, text, 1, 30, "--sigma2", "2.25", sigma2=2.25)
     holds("residual standard deviation 1.5" in picture.texts(), "the note on σ")
+
+
+@case("plot: relative errors: the band is that of their variance")
+def relative(folder):
+    picture, readings = check_numbers(folder, ROOM.replace("model ", "model relative "), 10, 48)
+    found = [text for text in picture.texts() if text.startswith("relative residual standard deviation 0.0")]
+    holds(len(found) == 1 and found[0].endswith(f": root mean square of {sum(y is not None for y in readings)} residuals"), f"the note on σ: {picture.texts()}")
+
+
+@case("plot: relative errors with a given σ², ties to even")
+def relative_given(folder):
+    text = "scale 10\nmodel relative even straight alpha 0.5 beta 0.1\nlevel -20\nreading -18\nreading -14\nmissing\nreading -19\n"
+    picture, _ = check_numbers(folder, text, 10, 30, "--sigma2", "0.0625", sigma2=0.0625)
+    holds("relative residual standard deviation 0.25" in picture.texts(), "the note on σ")
+
+
+@case("plot: relative errors of which no σ² can be taken")
+def no_relative(folder):
+    for text, reason in (
+        ("model relative none alpha 0\nreading 5\n", "there is no residual to take its σ² from; --sigma2 gives it"),
+        ("model relative none\nlevel 1\nreading 5\n", "the mean square of the relative residuals is above 1; --sigma2 gives another σ²"),
+    ):
+        same(draw(folder, text), (0, b"", f"plot: no band: {reason}\n"), text)
+        picture = Picture(folder / "day.svg")
+        same((picture.count("band1"), len(picture.points("forecast"))), (0, 24), "bands and forecasts")
+
+
+@case("plot: the errors of the state that stands at the end")
+def kinds_by_turns(folder):
+    first, second = "model none alpha 0.5\nlevel 5\nreading 7\n", "model relative none alpha 0.5\nlevel 10\nreading 15\n"
+    for text, told in ((first + second, "relative residual standard deviation 0.5"), (second + first, "residual standard deviation 2")):
+        same(draw(folder, text).status, 0, "status")
+        holds(f"{told}: root mean square of 1 residual" in Picture(folder / "day.svg").texts(), text)
 
 
 @case("plot: no trend, no season")
@@ -166,7 +205,7 @@ def score_of_the_program(folder):
     words = f.encode(0x15, 4, 0, 64).hex()
     other.write_text(f'#!/bin/sh\n"{PROGRAM}" | sed -E "s/^(S .{{72}})15.{{48}}/\\1{words}/"\n')
     other.chmod(0o755)
-    found = score_shown(folder, "model none\nreading 5\n", env=environment(FORECAST_RUN=str(other)))
+    found = score_shown(folder, "model none\ncount 9\nreading 5\n", env=environment(FORECAST_RUN=str(other)))
     same(found, ["score: root mean square 4 over 4 readings"], "the score")
 
 
@@ -203,6 +242,10 @@ WRONG = [
     ("a refused season", "model none m 2\nplace 2\nreading 5\n", [], 1, "day.txt, line 1: the place is out of range, or the count is above 2^48"),
     ("a refused score", "model none\nlevel 5\nscore 1 0 0\nreading 5\n", [], 1, "day.txt, line 1: the score has more readings than the count, or a sum above its readings times 2^52"),
     ("a refused forecast", "model none\nreading 5\nforecast 0\n", [], 1, "day.txt, line 3: the horizon is outside 1 to 512"),
+    ("a refused variance", "model relative none\nreading 5\nvariance 1 4\n", [], 1, "day.txt, line 3: the command is out of place, or asks for a variance that the model's errors do not have"),
+    ("a variance that leaves the doubles", "model relative straight alpha 1 beta 1\nlevel 16777216\ntrend 16777216\n", ["--horizon", "512", "--sigma2", "1"], 1,
+     "day.txt, horizon 376: the variance, or a number on the way to it, is too large for a double"),
+    ("a relative σ² above 1", "model relative none\nreading 5\n", ["--sigma2", "1.5"], 2, "--sigma2 1.5 is above 1, and the errors are relative"),
     ("bytes that are no command", "model none\nreading 5\nbytes ff\n", [], 2, "day.txt, line 3: from here on the bytes are no commands"),
     ("no state", "reading 5\n", [], 2, "day.txt: the first command opens no state"),
     ("an empty text", "", [], 2, "day.txt: the first command opens no state"),

@@ -11,6 +11,9 @@ LISTING = "model none alpha 0.5\nreading 10\nforecast 2\nvariance 2 4\n"
 PARAMETER = "a parameter is not one the model allows, or command 18 has gains inside the usual region"
 UNUSUAL = "command 10 has gains outside the usual region: model outside opens them by 18"
 RANGE = "a level, trend or season value is out of range, or not 0 where the model has none"
+PLACE = "the command is out of place, or asks for a variance that the model's errors do not have"
+SIGMA2 = "the variance of the relative residuals is not a number from 0 to 1"
+LARGE = "the variance, or a number on the way to it, is too large for a double"
 SCORE = "the score has more readings than the count, or a sum above its readings times 2^52"
 
 
@@ -112,7 +115,7 @@ SHOWN = [
             ("", "", "N 1", "1 step counted"),
         ),
     ),
-    ("a switch where no state is open", "even\nmissing\n", 1, table((1, "even", "X 3 0", "the command is out of place"), "line 2 was not played")),
+    ("a switch where no state is open", "even\nmissing\n", 1, table((1, "even", "X 3 0", PLACE), "line 2 was not played")),
     (
         "a switch before a refused line",
         "model even none\neven\nreading 1000001\neven\n",
@@ -123,6 +126,59 @@ SHOWN = [
             (3, "reading 1000001", "X 13 72", "the reading is out of range"),
             "line 4 was not played",
         ),
+    ),
+    (
+        "relative errors and their variance, in the units of its line",
+        "scale 10\nmodel relative none alpha 0.5\nlevel 10\nrelative 1 0.25\nrelative 2 0.25\nscale 1\nrelative 2 1/4\nforecast 2\nrelative 3 0\n",
+        0,
+        table(
+            (2, "model relative none alpha 0.5", "O 8 0", "state opened: model 8, season length 0, relative errors"),
+            (4, "relative 1 0.25", f"W 1 {f.bits(2500.0)}", "variance 25 for horizon 1"),
+            (5, "relative 2 0.25", f"W 2 {f.bits(3281.25)}", "variance 32.8125 for horizon 2"),
+            (7, "relative 2 1/4", f"W 2 {f.bits(3281.25)}", "variance 3281.25 for horizon 2"),
+            (8, "forecast 2", "F 2 6553600", "forecast 100 for horizon 2"),
+            (9, "relative 3 0", "W 3 0", "variance 0 for horizon 3"),
+            ("", "", "N 0", "0 steps counted"),
+        ),
+    ),
+    (
+        "a σ² above 1 is the program's to refuse",
+        "model relative even none\nrelative 3 1\nrelative 3 1.0000000000000003\nmissing\n",
+        1,
+        table(
+            (1, "model relative even none", "O 72 0", "state opened: model 72, season length 0, relative errors, ties to even"),
+            (2, "relative 3 1", "W 3 0", "variance 0 for horizon 3"),
+            (3, "relative 3 1.0000000000000003", "X 18 82", SIGMA2),
+            "line 4 was not played",
+        ),
+    ),
+    (
+        "and one below 0",
+        "model 8\nrelative 3 -0.04\n",
+        1,
+        table((1, "model 8", "O 8 0", "state opened: model 8, season length 0, relative errors"), (2, "relative 3 -0.04", "X 18 71", SIGMA2)),
+    ),
+    (
+        "a variance that leaves the doubles",
+        "model relative straight alpha 1 beta 1\nlevel 16777216\ntrend 16777216\nrelative 375 1\nrelative 376 1\n",
+        1,
+        table(
+            (1, "model relative straight alpha 1 beta 1", "O 9 0", "state opened: model 9, season length 0, relative errors"),
+            (4, "relative 375 1", "W 375 9216908930821724773", "variance 1.40660694774e+308 for horizon 375"),
+            (5, "relative 376 1", "X 19 82", LARGE),
+        ),
+    ),
+    (
+        "a variance where errors are relative",
+        "model relative none\nvariance 2 4\n",
+        1,
+        table((1, "model relative none", "O 8 0", "state opened: model 8, season length 0, relative errors"), (2, "variance 2 4", "X 3 71", PLACE)),
+    ),
+    (
+        "a relative variance where they are not",
+        "model none\nrelative 2 0.04\n",
+        1,
+        table((1, "model none", "O 0 0", OPENED), (2, "relative 2 0.04", "X 3 71", PLACE)),
     ),
     (
         "a score, in the units of its line",
@@ -170,7 +226,7 @@ SHOWN = [
         "a score outside a group",
         "model none\nbytes 15" + " 00" * 24 + "\nmissing\n",
         1,
-        table((1, "model none", "O 0 0", OPENED), (2, "bytes 15 00 00 00 00 00 00 00 00 00 0...", "X 3 71", "the command is out of place"), "line 3 was not played"),
+        table((1, "model none", "O 0 0", OPENED), (2, "bytes 15 00 00 00 00 00 00 00 00 00 0...", "X 3 71", PLACE), "line 3 was not played"),
     ),
     ("gains inside by 18", "model outside none m 2 A 3 G 65533\n", 1, table((1, "model outside none m 2 A 3 G 65533", "X 7 0", PARAMETER))),
     (

@@ -40,6 +40,11 @@ WRITTEN = [
     ("ties to even with a season, by 18", "model outside even none m 2 A 40000 G 40000\n", S(State(model=0x44, m=2, A=40000, G=40000, opener=0x18))),
     ("the same in the other order", "model even outside none m 2 A 40000 G 40000\n", S(State(model=0x44, m=2, A=40000, G=40000, opener=0x18))),
     ("ties to even of a model byte", "model even 0x03\nmodel even 64\n", S(State(model=0x43)) + S(State(model=0x40))),
+    ("relative errors", "model relative damped alpha 1 phi 0.5\nsave\n", S(State(model=0x0A, A=65536, F=32768)) + b"\x40"),
+    ("relative errors and ties to even with a season, by 18", "model outside even relative none m 2 A 40000 G 40000\n",
+     S(State(model=0x4C, m=2, A=40000, G=40000, opener=0x18))),
+    ("the same in another order", "model relative outside even none m 2 A 40000 G 40000\n", S(State(model=0x4C, m=2, A=40000, G=40000, opener=0x18))),
+    ("relative errors of a model byte", "model relative 0x03\nmodel relative 8\nmodel 13 m 2\n", S(State(model=11)) + S(State(model=8)) + S(State(model=13, m=2, F=65536))),
     ("a switch", "model none\neven\neven\nreading 5\n", S(State()) + b"\x14\x14" + f.encode(0x20, 5)),
     ("a model byte", "model 0x03 m 2 alpha 1\n", S(State(model=3, m=2, A=65536))),
     ("a model byte without season and an m", "model 1 m 2\n", S(State(model=1, m=2, F=65536))),
@@ -57,6 +62,10 @@ WRITTEN = [
     ("readings at the edges", "reading -2147483648\nreading 2147483647\n", f.encode(0x20, -(2**31)) + f.encode(0x20, 2**31 - 1)),
     ("horizons at the edges", "forecast 0\nforecast 65535\nvariance 65535 4294967295\n",
      f.encode(0x30, 0) + f.encode(0x30, 65535) + f.encode(0x31, 65535, 2**32 - 1)),
+    ("relative variances", "relative 2 0.04\nrelative 65535 1/3\nrelative 0 0\nrelative 1 25e-2\n",
+     f.encode(0x32, 2, f.bits(0.04)) + f.encode(0x32, 65535, f.bits(1 / 3)) + f.encode(0x32, 0, 0) + f.encode(0x32, 1, f.bits(0.25))),
+    ("relative variances for the program to refuse", "relative 1 1.5\nrelative 1 -0.04\nrelative 1 1e308\nrelative 1 -1e-999\n",
+     b"".join(f.encode(0x32, 1, f.bits(value)) for value in (1.5, -0.04, 1e308, -0.0))),
     ("number forms", "forecast 007\nforecast +7\nforecast 0x07\nreading 7.\nreading 70e-1\nreading 14/2\nreading +7.0\n",
      f.encode(0x30, 7) * 3 + f.encode(0x20, 7) * 4),
     ("a scale", "scale 100\nmodel none\nlevel 21.5\nreading 21.55\n", S(State(l=2150 * 65536)) + f.encode(0x20, 2155)),
@@ -91,6 +100,15 @@ def nearest(folder):
     same(written(folder, text), b"".join(S(State(l=expected)) for expected in fixed_point.values()), "the stream")
 
 
+@case("written: relative variances go to the nearest double, the even one of two as near")
+def nearest_double(folder):
+    # half way from the double below 1 to 1, just below it, and the same at the other end, where the least double is 1 as a number
+    half = "0.999999999999999944488848768742172978818416595458984375"
+    bits = {"1": f.bits(1.0), half: f.bits(1.0), half[:-1] + "4": f.bits(1.0) - 1, "4.9e-324": 1, "2.4e-324": 0, "1e-999": 0, "-0": 0}
+    text = "".join(f"relative 7 {word}\n" for word in bits)
+    same(written(folder, text), b"".join(f.encode(0x32, 7, expected) for expected in bits.values()), "the stream")
+
+
 @case("written: 65,537 bytes and more are written, for the program to refuse")
 def long_stream(folder):
     same(len(written(folder, "model none\n" + "missing\n" * 70000)), 71 + 70000, "the length")
@@ -101,8 +119,8 @@ def random_text(rng):
     x = random_streams.state(rng)
     names = ["none", "straight", "damped"]
     season = f" m {x.m}" if x.m else ""
-    outside = ("outside " if x.opener == 0x18 else "") + ("even " if x.model & f.EVEN else "")
-    head = [f"model {outside}{names[x.trend]} A {x.A} B {x.B} G {x.G} F {x.F}{season}", f"l {x.l}", f"b {x.b}", f"place {x.p}", f"count {x.count}"]
+    kinds = ("outside " if x.opener == 0x18 else "") + ("even " if x.model & f.EVEN else "") + ("relative " if x.relative else "")
+    head = [f"model {kinds}{names[x.trend]} A {x.A} B {x.B} G {x.G} F {x.F}{season}", f"l {x.l}", f"b {x.b}", f"place {x.p}", f"count {x.count}"]
     rest = head[1:] + [f"s {k} {x.s[k]}" for k in range(x.m)] + [f"score {x.readings} {x.high} {x.low}"]
     rng.shuffle(rest)
     return "\n".join(head[:1] + rest), x

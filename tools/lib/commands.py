@@ -14,7 +14,7 @@ INPUT_LIMIT = 65536  # bytes of the program's input
 
 class Field(NamedTuple):
     name: str
-    code: str  # its width, as struct has it: small letters are signed
+    code: str  # its width, as struct has it: small letters are signed, and d is a double
 
 
 class Command(NamedTuple):
@@ -47,7 +47,9 @@ OUTSIDE = 0x18  # opens a group as MODEL does, for gains outside the usual regio
 OPENERS = (MODEL, OUTSIDE)
 TO_EVEN = 0x14  # switches the state to rounding with ties to even
 EVEN = 0x40  # that rule's bit of the model byte
-READING, MISSING, FORECAST, VARIANCE, SAVE = 0x20, 0x21, 0x30, 0x31, 0x40
+RELATIVE = 0x08  # the model byte's bit for relative errors, whose variance is RELATIVE_VARIANCE and not VARIANCE
+READING, MISSING, FORECAST, VARIANCE, RELATIVE_VARIANCE, SAVE = 0x20, 0x21, 0x30, 0x31, 0x32, 0x40
+DOUBLE = "d"
 
 MODEL_FIELDS = fields("model:B", "m:B", "A:I", "B:I", "G:I", "F:I")
 
@@ -65,12 +67,13 @@ COMMANDS = {
         Command(MISSING, "missing", "M", ()),
         Command(FORECAST, "forecast", "F", fields("horizon:H")),
         Command(VARIANCE, "variance", "V", fields("horizon:H", "sigma2:I")),
+        Command(RELATIVE_VARIANCE, "relative", "W", fields("horizon:H", "sigma2:d")),
         Command(SAVE, "save", "S", ()),
     )
 }
 ONLY_IN_SNAPSHOT = (LEVEL, SCORE, SEASON, POSITION)
 LONGEST_SNAPSHOT = sum(COMMANDS[byte].length for byte in (MODEL, LEVEL, SCORE, POSITION)) + 255 * COMMANDS[SEASON].length
-CODES = {field.name: field.code for command in COMMANDS.values() for field in command.fields}
+CODES = {field.name: field.code for command in COMMANDS.values() for field in command.fields if field.code != DOUBLE}
 
 
 def limits(code):

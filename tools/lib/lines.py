@@ -8,17 +8,18 @@ import collections
 import itertools
 import math
 import re
+import struct
 from fractions import Fraction
 from typing import NamedTuple
 
 from lib.cli import Failure
-from lib.commands import COMMANDS, EVEN, TO_EVEN, decode, decode_snapshot
+from lib.commands import COMMANDS, EVEN, RELATIVE, TO_EVEN, decode, decode_snapshot
 from lib.numerals import FIXED_POINT, counted, readable
 
 REJECTIONS = {
     1: "the input is longer than 65,536 bytes",
     2: "the command's first byte is unknown",
-    3: "the command is out of place",
+    3: "the command is out of place, or asks for a variance that the model's errors do not have",
     4: "the bytes end inside a command or before a group is finished",
     5: "the model byte is not valid",
     6: "the season length is not one the model allows",
@@ -33,6 +34,8 @@ REJECTIONS = {
     15: "a new level, trend or season value would leave its range",
     16: "command 10 has gains outside the usual region: model outside opens them by 18",
     17: "the score has more readings than the count, or a sum above its readings times 2^52",
+    18: "the variance of the relative residuals is not a number from 0 to 1",
+    19: "the variance, or a number on the way to it, is too large for a double",
 }
 TOO_LONG = 1  # the refusal that names no command
 
@@ -43,6 +46,11 @@ def units(fixed_point, scale):
 
 def variance_units(high, low, scale):
     return Fraction(int(high) * 2**64 + int(low), 2**32 * scale**2)
+
+
+def relative_variance_units(bits, scale):
+    """The variance of relative errors, of which a line has the bits of a double."""
+    return struct.unpack("<d", struct.pack("<Q", int(bits)))[0] / scale**2
 
 
 def score(snapshot, scale, unit="", decimals=None):
@@ -61,7 +69,8 @@ def saved(digits, scale):
 
 
 def opened(model, m):
-    return f"state opened: model {model}, season length {m}{', ties to even' if int(model) & EVEN else ''}"
+    kinds = {RELATIVE: ", relative errors", EVEN: ", ties to even"}
+    return f"state opened: model {model}, season length {m}" + "".join(kinds[bit] for bit in kinds if int(model) & bit)
 
 
 MEANINGS = {
@@ -70,6 +79,7 @@ MEANINGS = {
     "M": lambda scale: "missing reading taken",
     "F": lambda scale, horizon, value: f"forecast {units(value, scale)} for horizon {horizon}",
     "V": lambda scale, horizon, high, low: f"variance {readable(variance_units(high, low, scale))} for horizon {horizon}",
+    "W": lambda scale, horizon, bits: f"variance {readable(relative_variance_units(bits, scale))} for horizon {horizon}",
     "S": lambda scale, digits: saved(digits, scale),
     "X": lambda scale, code, offset: REJECTIONS.get(int(code), "a refusal this tool does not know"),
     "N": lambda scale, count: f"{counted(count, 'step')} counted",

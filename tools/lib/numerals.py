@@ -44,6 +44,14 @@ def decimal(field, word):
     return Fraction(word)
 
 
+def double(field, word):
+    """The double nearest to a decimal or a fraction."""
+    try:
+        return float(decimal(field, word))
+    except OverflowError:
+        raise Mistake(f"{field} {shown(word)} does not fit a double") from None
+
+
 def nearest(value):
     """The nearest whole 65,536th, the upper one of two that are as near: R of document 01."""
     return math.floor(value * FIXED_POINT + Fraction(1, 2))

@@ -66,7 +66,7 @@ def read(path, scale, column=None, header=False, separator=","):
             found.append(Reading(line, "", None))
             continue
         try:
-            texts.operand("reading", "reading", word, scale)
+            texts.reading(word, scale)
         except Mistake as e:
             raise Mistake(f"{path}, line {line}: {e}{hint(word, scale, line)}") from None
         found.append(Reading(line, word, decimal("reading", word) * scale))

@@ -6,11 +6,12 @@ from typing import NamedTuple
 
 from lib import commands
 from lib.cli import Mistake, shown
-from lib.commands import EVEN, LEVEL, MODEL, OUTSIDE, POSITION, SCORE, SEASON, COMMANDS, encode, fitted, in_words
-from lib.numerals import decimal, nearest, whole
+from lib.commands import DOUBLE, EVEN, LEVEL, MODEL, OUTSIDE, POSITION, RELATIVE, SCORE, SEASON, COMMANDS, encode, fitted, in_words
+from lib.numerals import decimal, double, nearest, whole
 
 TRENDS = {"none": 0, "straight": 1, "damped": 2}
 STRAIGHT, SEASONAL = 1, 4  # the trend's bits and the season's bit of the model byte
+BITS = {"even": EVEN, "relative": RELATIVE}  # the others', by the word that stands before the trend
 PARAMETERS = {"alpha": "A", "beta": "B", "gamma": "G", "phi": "F"}
 LETTERED = {"level": "l", "l": "l", "trend": "b", "b": "b", "season": "s", "s": "s"}
 STATE_WORDS = {**LETTERED, "place": "place", "count": "count", "score": "score"}
@@ -40,12 +41,15 @@ class Description:
     def __init__(self, source, scale, words):
         self.source, self.scale = source, scale
         self.given = {}  # name, or (s, place), to value, line and the user's words
-        kinds = list(itertools.takewhile(lambda word: word in ("outside", "even"), words))
+        kinds = list(itertools.takewhile(lambda word: word == "outside" or word in BITS, words))
         words = words[len(kinds) :]
-        if len(set(kinds)) < len(kinds):
-            raise Mistake(f"{kinds[0]} is given a second time")
+        for k, kind in enumerate(kinds):
+            if kind in kinds[:k]:
+                raise Mistake(f"{kind} is given a second time")
         self.opener = OUTSIDE if "outside" in kinds else MODEL
-        self.byte = self.model_byte(words) | (EVEN if "even" in kinds else 0)
+        self.byte = self.model_byte(words)
+        for kind in kinds:
+            self.byte |= BITS.get(kind, 0)
         self.parameters(words[1:])
 
     def model_byte(self, words):
@@ -192,17 +196,21 @@ def command(words, scale):
     fields = SINGLE[name].fields
     if len(rest) != len(fields):
         raise Mistake(f"{name} takes {len(fields) or 'no'} number{'s' * (len(fields) != 1)}")
-    return encode(SINGLE[name].byte, *[operand(name, field.name, word, scale) for field, word in zip(fields, rest)])
+    return encode(SINGLE[name].byte, *[operand(name, field, word, scale) for field, word in zip(fields, rest)])
 
 
 def operand(name, field, word, scale):
-    said = field if field == name else f"{name}'s {field}"
-    if field != "reading":
-        return fitted(field, whole(said, word), f"{said} {word}")
-    value = decimal(said, word) * scale
+    if field.name == "reading":
+        return reading(word, scale)
+    said = f"{name}'s {field.name}"
+    return double(said, word) if field.code == DOUBLE else fitted(field.name, whole(said, word), f"{said} {word}")
+
+
+def reading(word, scale):
+    value = decimal("reading", word) * scale
     if value.denominator != 1:
         raise Mistake(f"reading {word} is not whole at scale {scale}")
-    return fitted(field, int(value), in_words(said, word, int(value), f" at scale {scale}"))
+    return fitted("reading", int(value), in_words("reading", word, int(value), f" at scale {scale}"))
 
 
 def lines(text):

@@ -2,6 +2,7 @@
 use Prim.Native.Nat.{ℕ}
 use mathlib.Core.List.{List}
 use lib.IntN.{ℤ}
+use lib.Ieee.{Float}
 use Rattle.state.specs.Rejections.{_then_, accepting, outcomeCode}
 use Rattle.ets.specs.Batches.{batch, batchLevels}
 use Rattle.forecasts.specs.Forecasts.{forecastsCode, forecastCells}
@@ -9,6 +10,7 @@ use Rattle.snapshot.specs.Snapshots.{decoded}
 use Rattle.snapshot.specs.Slices.{inPlaceCode}
 use Rattle.weights.specs.Weights.{weight, weightCode, weightValue}
 use Rattle.weights.specs.Groups.{weightGroupsCode, weightGroupCells}
+use Rattle.relative.specs.Relative.{answerCode, answerValue, relativeVariance, relativeCells}
 
 -- a batch: the number returned, the readings taken, and the cells; the snapshot is read and not rewritten
 unfoldable pub batchCode : List ℕ → List ℤ → ℕ → ℕ
@@ -40,3 +42,14 @@ inPlaceGroupsCode d h room = inPlaceCode d then weightGroupsCode (decoded d) h r
 
 unfoldable pub inPlaceGroupCells : List ℕ → ℕ → List ℕ → List ℕ
 inPlaceGroupCells d h cells = accepting (inPlaceCode d) (weightGroupCells (decoded d) h cells) (λ (n : ℕ). cells)
+
+-- a variance of multiplicative errors, with so many doubles lent: the number returned, the lent number, as found where it is rejected, and the cells
+unfoldable pub inPlaceRelativeCode : List ℕ → ℕ → ℕ → ℕ → ℕ
+inPlaceRelativeCode d h bits room = inPlaceCode d then answerCode (relativeVariance (decoded d) h bits room)
+
+unfoldable pub inPlaceRelativeValue : List ℕ → ℕ → ℕ → ℕ → Float → Float
+inPlaceRelativeValue d h bits room old =
+    accepting (inPlaceCode d) (answerValue (relativeVariance (decoded d) h bits room) old) (λ (n : ℕ). old)
+
+unfoldable pub inPlaceRelativeCells : List ℕ → ℕ → ℕ → List Float → List Float
+inPlaceRelativeCells d h bits cells = accepting (inPlaceCode d) (relativeCells (decoded d) h bits cells) (λ (n : ℕ). cells)

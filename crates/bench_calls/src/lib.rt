@@ -2,6 +2,8 @@
 // Each returns the rejection's number or 0, as the station's calls do; a rejected call leaves the cells and the lent weight as found.
 use ets::batches::batch;
 use forecasts::forecasts;
+use relative::RelativeVariance;
+use relative::relative_variance;
 use snapshot::slices::read;
 use state::code_of;
 use weights::Weight;
@@ -9,7 +11,7 @@ use weights::groups::weight_groups;
 use weights::variances::weight;
 ghost use mathlib.Core.Path.{_≡_};
 ghost use lib.ListN.{length};
-ghost use Rattle.bench_calls.specs.Snapshots.{batchCode, batchTaken, batchCells, allCode, allCells, inPlaceWeightCode, inPlaceWeight, inPlaceGroupsCode, inPlaceGroupCells};
+ghost use Rattle.bench_calls.specs.Snapshots.{batchCode, batchTaken, batchCells, allCode, allCells, inPlaceWeightCode, inPlaceWeight, inPlaceGroupsCode, inPlaceGroupCells, inPlaceRelativeCode, inPlaceRelativeValue, inPlaceRelativeCells};
 
 // The readings taken are told in every case: 0 where a check before the first of them stops the batch.
 #[no_mangle]
@@ -87,4 +89,32 @@ pub extern "C" fn bench_weight_groups(snapshot: &[u8], horizon: u32, cells: &mut
     }
     let state = opened.state;
     code_of(weight_groups(state, horizon, cells))
+}
+
+#[no_mangle]
+pub extern "C" fn bench_relative_variance(
+    snapshot: &[u8],
+    horizon: u32,
+    sigma2: u64,
+    value: &mut f64,
+    thetas: &mut [f64],
+) -> u8
+    ensures code { λ r. ⌜ r ≡ inPlaceRelativeCode (now (snapshot .entry)) horizon sigma2 (length (now (thetas .entry))) ⌝ }
+    ensures number { λ _. ⌜ now (value .exit) ≡ inPlaceRelativeValue (now (snapshot .entry)) horizon sigma2 (length (now (thetas .entry))) (now (value .entry)) ⌝ }
+    ensures buffer { λ _. ⌜ now (thetas .exit) ≡ inPlaceRelativeCells (now (snapshot .entry)) horizon sigma2 (now (thetas .entry)) ⌝ }
+{
+    let opened = read(snapshot);
+    let outcome = opened.outcome;
+    let code = code_of(outcome);
+    if code != 0 {
+        return code;
+    }
+    let state = opened.state;
+    match relative_variance(state, horizon, sigma2, thetas) {
+        RelativeVariance::Accepted(v) => {
+            *value = v;
+            0
+        }
+        RelativeVariance::Rejected(n) => n,
+    }
 }

@@ -1,5 +1,6 @@
 // The calls, and what each answers: a rejection's number or 0, and then what the call gives.
 use super::input::first_bytes;
+use super::input::first_doubles;
 use super::input::first_numbers;
 use super::input::first_values;
 use super::input::next_i32;
@@ -7,8 +8,11 @@ use super::input::next_readings;
 use super::input::next_size;
 use super::input::next_state;
 use super::input::next_u32;
+use super::input::next_u64;
 use super::printing::print_bytes;
 use super::printing::print_code;
+use super::printing::print_double;
+use super::printing::print_doubles;
 use super::printing::print_number;
 use super::printing::print_numbers;
 use super::printing::print_signed;
@@ -16,6 +20,7 @@ use super::printing::print_state;
 use super::printing::print_values;
 use layout::Length;
 use libc::STDIN_FILENO;
+use relative::RelativeVariance;
 use state::Answer;
 use state::Outcome;
 use state::State;
@@ -57,6 +62,16 @@ fn print_variance(v: Variance) {
             print_number(low);
         }
         Variance::Rejected(code) => print_code(code),
+    }
+}
+
+fn print_relative(v: RelativeVariance) {
+    match v {
+        RelativeVariance::Accepted(x) => {
+            print_code(0);
+            print_double(x);
+        }
+        RelativeVariance::Rejected(code) => print_code(code),
     }
 }
 
@@ -127,6 +142,20 @@ fn play_weight_groups(s: State) {
     print_numbers(cells);
 }
 
+fn play_coefficients(s: State) {
+    let mut space = [77u64; 520];
+    let cells = first_numbers(&mut space, next_size());
+    print_outcome(weights::coefficients::coefficients(s, next_u32(), cells));
+    print_numbers(cells);
+}
+
+fn play_relative(s: State) {
+    let mut space = [77.0f64; 520];
+    let cells = first_doubles(&mut space, next_size());
+    print_relative(relative::relative_variance(s, next_u32(), next_u64(), cells));
+    print_doubles(cells);
+}
+
 fn play_save(s: State) {
     let mut cells = [77u8; 1024];
     let bytes = first_bytes(&mut cells, next_size());
@@ -164,6 +193,8 @@ pub fn play(operation: u8) {
         13 => play_switch(next_state()),
         14 => play_switch_in_place(),
         15 => play_weight_groups(next_state()),
+        16 => play_relative(next_state()),
+        17 => play_coefficients(next_state()),
         _ => play_cells(operation, next_state()),
     }
 }

@@ -78,6 +78,14 @@ pub fn first_numbers<'a>(numbers: &'a mut [u64], n: usize) -> &'a mut [u64] {
     }
 }
 
+pub fn first_doubles<'a>(doubles: &'a mut [f64], n: usize) -> &'a mut [f64] {
+    if n <= doubles.len() {
+        &mut doubles[..n]
+    } else {
+        doubles
+    }
+}
+
 // The season cells of a record, and 0 after them.
 fn next_season() -> [i64; 48] {
     let n = next_size();

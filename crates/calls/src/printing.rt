@@ -40,6 +40,23 @@ pub fn print_numbers(numbers: &[u64]) {
     }
 }
 
+// By its bits; a NaN, which none of the calls gives, by a word of its own.
+pub fn print_double(x: f64) {
+    if x == x {
+        print_number(f64::to_bits(x));
+    } else {
+        io::write_all(STDOUT_FILENO, b"NaN ");
+    }
+}
+
+pub fn print_doubles(doubles: &[f64]) {
+    let mut i = 0;
+    while i < doubles.len() {
+        print_double(doubles[i]);
+        i += 1;
+    }
+}
+
 pub fn print_bytes(bytes: &[u8]) {
     let mut i = 0;
     while i < bytes.len() {

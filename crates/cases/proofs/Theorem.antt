@@ -1,4 +1,4 @@
--- T1 to T12, W-211, W-204 and W-210: each row of the table holds, since both sides compute to the same.
+-- T1 to T12, W-211, W-204, W-210 and W-205: each row of the table holds, since both sides compute to the same.
 use mathlib.Core.Path.{refl}
 use Rattle.state.specs.Fixed.{R, share}
 use Rattle.integers.specs.Below.{allBelow}
@@ -6,7 +6,7 @@ use Rattle.state.specs.Scores.{sumOf, sumOk}
 use Rattle.state.specs.States.{check, parametersCode}
 use Rattle.ets.specs.Steps.{dampedTrend, seasonDue, residual, newLevel, newTrend, newSeason, newSeasonal, squareOf, scoreAfter, nextIndex, advanced, missingCode, stepCode, step, missing}
 use Rattle.forecasts.specs.Forecasts.{trendAt, trendLine, seasonAt, forecastOf, forecastCodeTo, forecastTo}
-use Rattle.weights.specs.Weights.{dampingSum, trendTerm, seasonTerm, coefficient, squares, weightOf, weight, variance}
+use Rattle.weights.specs.Weights.{dampingSum, trendTerm, seasonTerm, coefficient, squares, weightOf, errorsCode, weight, variance}
 use Rattle.weights.specs.Groups.{groupSum, firstGroups, weightGroupsCode, weightGroupCells}
 use Rattle.cases.specs.Cases.{Every, table}
 
@@ -15,7 +15,7 @@ _and_ : {A B : Type 0} → A → B → A × B
 a and b = (a, b)
 
 pub all-rows : Every table
-unfolding Every R share allBelow sumOf sumOk check parametersCode dampedTrend seasonDue residual newLevel newTrend newSeason newSeasonal squareOf scoreAfter nextIndex advanced missingCode stepCode step missing trendAt trendLine seasonAt forecastOf forecastCodeTo forecastTo dampingSum trendTerm seasonTerm coefficient squares weightOf weight variance groupSum firstGroups weightGroupsCode weightGroupCells table
+unfolding Every R share allBelow sumOf sumOk check parametersCode dampedTrend seasonDue residual newLevel newTrend newSeason newSeasonal squareOf scoreAfter nextIndex advanced missingCode stepCode step missing trendAt trendLine seasonAt forecastOf forecastCodeTo forecastTo dampingSum trendTerm seasonTerm coefficient squares weightOf errorsCode weight variance groupSum firstGroups weightGroupsCode weightGroupCells table
 all-rows =
     -- T1
     refl and refl and refl and refl
@@ -47,4 +47,6 @@ all-rows =
     and refl and refl and refl and refl and refl and refl and refl and refl
     -- W-210
     and refl and refl and refl and refl and refl and refl
+    -- W-205
+    and refl and refl and refl and refl and refl and refl and refl and refl
     and tt

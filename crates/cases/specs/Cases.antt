@@ -1,4 +1,4 @@
--- Document 01, "Station cases": T1 to T12 as one table, T1's numbers by the other rounding rule (document 02, W-211), the score (document 02, W-204), and the groups of a weight (document 02, W-210). The function `cases::station_cases` promises it.
+-- Document 01, "Station cases": T1 to T12 as one table, T1's numbers by the other rounding rule (document 02, W-211), the score (document 02, W-204), the groups of a weight (document 02, W-210), and the model bytes with multiplicative errors (document 02, W-205). The function `cases::station_cases` promises it.
 use Prim.Native.Nat.{ℕ, _+_, _-_, _^_}
 use mathlib.Core.Path.{_≡_}
 use mathlib.Core.Bool.{true, false}
@@ -44,6 +44,10 @@ listing = stateOf false 0 0 32768 0 0 0 (pos 0) (pos 0) [] 0 0 noScore
 -- straight, A 32768, B 16384, l 0, b 65536
 abbrev pub straight : State
 straight = stateOf false 1 0 32768 16384 0 65536 (pos 0) (pos 65536) [] 0 0 noScore
+
+-- T3's state with another model byte
+abbrev pub straightAs : ℕ → State
+straightAs model = stateOf false model 0 32768 16384 0 65536 (pos 0) (pos 65536) [] 0 0 noScore
 
 -- damped, F 32768, A and B 0, l 0, b 3
 abbrev pub damped : State
@@ -123,8 +127,17 @@ table =
     ∷ row 210 (weightGroupsCode seasonal 513 1) 11
     ∷ row 210 (weightGroupsCode seasonal 512 1) 12
     ∷ row 210 (weightGroupsCode straight 512 1) 0
+    -- W-205: byte 9 is T3's with multiplicative errors, 73 with ties to even too; 11 and 17 are refusal 5. The step and the forecast are T3's. The weight and its groups are refusal 3, before 11.
+    ∷ row 205 (check (straightAs 9)) 0
+    ∷ row 205 (check (straightAs 73)) 0
+    ∷ row 205 (check (straightAs 11)) 5
+    ∷ row 205 (check (straightAs 17)) 5
+    ∷ row 205 (after (straightAs 9) (pos 3)) (stateOf false 9 0 32768 16384 0 65536 (pos 131072) (pos 98304) [] 0 1 (scoreOf 1 0 4))
+    ∷ row 205 (forecast (after (straightAs 9) (pos 3)) 3) (answer-of.Accepted (pos 425984))
+    ∷ row 205 (weight (straightAs 9) 513) (weight-of.Rejected 3)
+    ∷ row 205 (weightGroupsCode (straightAs 9) 513 0) 3
     ∷ []
 
 -- so many comparisons for each case
 abbrev pub compared : List ℕ
-compared = 1 ∷ 1 ∷ 1 ∷ 1 ∷ 2 ∷ 2 ∷ 2 ∷ 2 ∷ 3 ∷ 3 ∷ 4 ∷ 4 ∷ 5 ∷ 5 ∷ 5 ∷ 5 ∷ 6 ∷ 7 ∷ 8 ∷ 9 ∷ 9 ∷ 10 ∷ 10 ∷ 11 ∷ 11 ∷ 11 ∷ 11 ∷ 11 ∷ 12 ∷ 211 ∷ 211 ∷ 211 ∷ 211 ∷ 211 ∷ 211 ∷ 211 ∷ 204 ∷ 204 ∷ 204 ∷ 204 ∷ 204 ∷ 204 ∷ 204 ∷ 204 ∷ 210 ∷ 210 ∷ 210 ∷ 210 ∷ 210 ∷ 210 ∷ []
+compared = 1 ∷ 1 ∷ 1 ∷ 1 ∷ 2 ∷ 2 ∷ 2 ∷ 2 ∷ 3 ∷ 3 ∷ 4 ∷ 4 ∷ 5 ∷ 5 ∷ 5 ∷ 5 ∷ 6 ∷ 7 ∷ 8 ∷ 9 ∷ 9 ∷ 10 ∷ 10 ∷ 11 ∷ 11 ∷ 11 ∷ 11 ∷ 11 ∷ 12 ∷ 211 ∷ 211 ∷ 211 ∷ 211 ∷ 211 ∷ 211 ∷ 211 ∷ 204 ∷ 204 ∷ 204 ∷ 204 ∷ 204 ∷ 204 ∷ 204 ∷ 204 ∷ 210 ∷ 210 ∷ 210 ∷ 210 ∷ 210 ∷ 210 ∷ 205 ∷ 205 ∷ 205 ∷ 205 ∷ 205 ∷ 205 ∷ 205 ∷ 205 ∷ []

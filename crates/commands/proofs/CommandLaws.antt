@@ -24,10 +24,9 @@ use Rattle.saving.specs.Encoding.{encoded}
 use Rattle.saving.specs.Saving.{bytesNeeded, save, saveCode}
 use Rattle.saving.proofs.RoundTrip.{length-encoded}
 use Rattle.replies.specs.declared.Reply.the-variants as reply-of
-use Rattle.decoding.specs.Decoding.{decode}
 use Rattle.decoding.specs.declared.Command.{Command}
 use Rattle.decoding.specs.declared.Decoded.{Decoded}
-use Rattle.commands.specs.Commands.{accepted, rejected, restOffset, openSnapshot, act, buffered, perform, performBytes}
+use Rattle.commands.specs.Commands.{accepted, rejected, restOffset, openSnapshot, act, buffered, nextCommand, perform, performBytes}
 use Rattle.commands.specs.Stream.{snapshotRoom}
 use Rattle.commands.specs.declared.Session.{Session}
 use Rattle.commands.specs.declared.Performed.{Performed}
@@ -75,7 +74,7 @@ unfolding openSnapshot
 opened-accepted s x g z q = rw (z, ← q)
 
 -- ---- the command that was decoded is performed
-module _ (s : List ℕ) (x : Session) (d : Decoded) (k : Command) (q : d ≡ decode s (x .at) (x .active)) (e : d .command ≡ k) where
+module _ (s : List ℕ) (x : Session) (d : Decoded) (k : Command) (q : d ≡ nextCommand s x) (e : d .command ≡ k) where
   pub performs : (room : ℕ) → perform s x room ≡ act s x room (d .next) k
   unfolding perform
   performs room = rw (← q, e)

@@ -1,3 +1,3 @@
+pub mod ByteLaws
 pub mod CommandLaws
 pub mod StreamLaws
-pub mod SwitchLaws

@@ -10,6 +10,7 @@ use borrow.Author.Tests.{eqb-true, leb-false, lt-leb}
 use lib.Dec.{eqb, leb, eqb·suc-zero}
 use lib.IntN.{ℤ}
 use lib.ListN.{length, length-drop, length-replicate, take, drop, getD, replicate}
+use lib.Ieee.{Float}
 use lib.Seq.{sets, sets-eq, take-at, take-length}
 use Rattle.state.specs.Rejections.{unless, outcome, answer, input-too-long, truncated}
 use Rattle.state.specs.States.{check}
@@ -20,11 +21,14 @@ use Rattle.state.specs.declared.Outcome.the-variants as outcome-of
 use Rattle.integers.proofs.Tests.{cond-elim}
 use Rattle.state.proofs.Switches.{checks-kept, switch-accepted}
 use Rattle.ets.specs.Steps.{step, stepCode, residualOf, missing, missingCode}
-use Rattle.forecasts.specs.Forecasts.{forecastTo, forecastCode, forecastOf}
+use Rattle.forecasts.specs.Forecasts.{maxHorizon, forecastTo, forecastCode, forecastOf}
 use Rattle.ets.proofs.Kept.{cells-kept, reading-kept, missing-kept}
 use Rattle.weights.specs.Weights.{variance}
 use Rattle.weights.specs.declared.Variance.{Variance}
 use Rattle.weights.specs.declared.Variance.the-variants as variance-of
+use Rattle.relative.specs.Relative.{relativeVariance}
+use Rattle.relative.specs.declared.RelativeVariance.{RelativeVariance}
+use Rattle.relative.specs.declared.RelativeVariance.the-variants as relative-of
 use Rattle.layout.specs.CommandTable.{commandSize, opens}
 use Rattle.snapshot.specs.Snapshots.{openCode, openOffset, decoded, read}
 use Rattle.saving.specs.Encoding.{encoded}
@@ -42,7 +46,7 @@ use Rattle.replies.specs.declared.Reply.{Reply}
 use Rattle.replies.specs.declared.Reply.the-variants as reply-of
 use Rattle.lines.specs.declared.Line.the-variants as line-of
 use Rattle.lines.proofs.LineLaws.{savedCount, line-most, long-enough}
-use Rattle.commands.specs.Commands.{start, accepted, rejected, byOutcome, byAnswer, byVariance, finish, restOffset, openSnapshot, takeReading, takeMissing, switchState, giveForecast, giveVariance, saveState, act, buffered, perform, performBytes, isLast}
+use Rattle.commands.specs.Commands.{start, accepted, rejected, byOutcome, byAnswer, byVariance, byRelative, finish, restOffset, openSnapshot, takeReading, takeMissing, switchState, giveForecast, giveVariance, giveRelativeVariance, saveState, act, buffered, nextCommand, perform, performBytes, isLast}
 use Rattle.commands.specs.Stream.{inputLimit, snapshotRoom, lineRoom, admit, next, answersIn, answersFrom, answersOf, answers, writeNext, nextBytes, finalReply, lastReply, lineAfter, textOf}
 use Rattle.commands.specs.Promises.{Passes, Sound, Sessions, EndsOnce, Answers, Openings, Offsets}
 use Rattle.commands.specs.declared.Session.{Session}
@@ -61,6 +65,10 @@ module _ (P : Performed → Type 0) where
   on-variance : (v : Variance) (a : ℕ → ℕ → Performed) (r : ℕ → Performed) → ((high low : ℕ) → P (a high low)) → ((n : ℕ) → P (r n)) → P (byVariance v a r)
   on-variance (variance-of.Accepted high low) a r f g = f high low
   on-variance (variance-of.Rejected n) a r f g = g n
+
+  on-relative : (v : RelativeVariance) (a : Float → Performed) (r : ℕ → Performed) → ((w : Float) → P (a w)) → ((n : ℕ) → P (r n)) → P (byRelative v a r)
+  on-relative (relative-of.Accepted w) a r f g = f w
+  on-relative (relative-of.Rejected n) a r f g = g n
 
 -- ---- a state that is open passes its checks
 start-sound : Sound start
@@ -143,6 +151,10 @@ module _ (s : List ℕ) (x : Session) (d : List ℕ) where
     unfolding giveVariance lineOf fieldsBytes
     variance-goes j v = on-variance (Goes s x d) (variance (x .state) j v) _ _ (λ high low. goes _ to _ h k same (omega arith) refl) (λ n. stays n _)
 
+    relative-goes : (j v : ℕ) → Goes s x d (giveRelativeVariance x to j v)
+    unfolding giveRelativeVariance lineOf fieldsBytes
+    relative-goes j v = on-relative (Goes s x d) (relativeVariance (x .state) j v maxHorizon) _ _ (λ w. goes _ to _ h k same (omega arith) refl) (λ n. stays n _)
+
 save-goes : (s : List ℕ) (x : Session) (d : List ℕ) (to : ℕ) → x .at < to → to ≤ length s → (Sound x → Passes (x .state))
     → Goes s x (savedBytes (x .state) d) (saveState x to (length d))
 unfolding saveState save
@@ -164,10 +176,10 @@ module _ (s : List ℕ) (x : Session) (d : List ℕ) where
   abbrev After : Decoded → Type 0
   After k = Goes s x (buffered x d (k .command)) (act s x (length d) (k .next) (k .command))
 
-  operands-go : x .at < length s → commandCode s (x .at) (x .active) ≡ 0 → After (record { command = operands s (x .at); next = x .at + commandSize b })
+  operands-go : x .at < length s → commandCode s (x .at) (x .active) (x .state .model) ≡ 0 → After (record { command = operands s (x .at); next = x .at + commandSize b })
   unfolding operands
   operands-go h e =
-      let w = whole-command s (x .at) (x .active) e in
+      let w = whole-command s (x .at) (x .active) (x .state .model) e in
       let to : ℕ = x .at + commandSize b in
       let l : x .at < to = omega arith in
       let k : to ≤ length s = omega arith in
@@ -178,15 +190,16 @@ module _ (s : List ℕ) (x : Session) (d : List ℕ) where
       (λ _. cond-elim P (eqb b 0x21) _ _ (λ _. missing-goes s x d to l k (open-state q))
       (λ _. cond-elim P (eqb b 0x30) _ _ (λ _. forecast-goes s x d to l k (open-state q) _)
       (λ _. cond-elim P (eqb b 0x31) _ _ (λ _. variance-goes s x d to l k (open-state q) _ _)
+      (λ _. cond-elim P (eqb b 0x32) _ _ (λ _. relative-goes s x d to l k (open-state q) _ _)
       (λ _. cond-elim P (eqb b 0x14) _ _ (λ _. switch-goes s x d to l k (open-state q))
-      (λ _. save-goes s x d to l k (open-state q)))))))
+      (λ _. save-goes s x d to l k (open-state q))))))))
 
   pub perform-goes : Goes s x (performBytes s x d) (perform s x (length d))
   unfolding perform performBytes decode
   perform-goes =
       cond-elim After (leb (length s) (x .at)) _ _ (λ _. finish-goes s x d)
       (λ q. let h = leb-false (length s) (x .at) q in
-      cond-elim After (eqb (commandCode s (x .at) (x .active)) 0) _ _ (λ e. operands-go h (eqb-true _ 0 e)) (λ _. stays s x d _ _))
+      cond-elim After (eqb (commandCode s (x .at) (x .active) (x .state .model)) 0) _ _ (λ e. operands-go h (eqb-true _ 0 e)) (λ _. stays s x d _ _))
 
 -- one command of the program's stream
 pub next-goes : (s : List ℕ) (x : Session) → Goes s x (performBytes s x (replicate snapshotRoom 0)) (next s x)
@@ -284,9 +297,9 @@ pub answers-laws : Answers
 answers-laws = record { each = command-by-command; lines = line-by-line; written = line-written; ends = ends-once }
 
 -- ---- a new group, and the offset of X
-module _ (s : List ℕ) (x : Session) (room : ℕ) (o : decode s (x .at) (x .active) .command ≡ command-of.Open) where
+module _ (s : List ℕ) (x : Session) (room : ℕ) (o : nextCommand s x .command ≡ command-of.Open) where
   opened : perform s x room ≡ openSnapshot s x
-  opened = performs s x (decode s (x .at) (x .active)) command-of.Open refl o room
+  opened = performs s x (nextCommand s x) command-of.Open refl o room
 
   whole : openCode (drop (x .at) s) ≡ 0 → perform s x room .session .state ≡ decoded (drop (x .at) s)
   unfolding openSnapshot read
@@ -297,7 +310,7 @@ module _ (s : List ℕ) (x : Session) (room : ℕ) (o : decode s (x .at) (x .act
 
   none : openCode (drop (x .at) s) ≡ truncated → length (drop (x .at) s) ≤ openOffset (drop (x .at) s) → perform s x room .reply ≡ reply-of.Rejected truncated (length s)
   none z h =
-      let k = inside s (x .at) (x .active) o in
+      let k = inside s (x .at) (x .active) (x .state .model) o in
       let e : restOffset s (x .at) ≡ length s = omega (arith, length-drop (x .at) s, offsets (drop (x .at) s) .within) in
       ap (λ (p : Performed). p .reply) (opened ∙ opened-rejected s x 4 (sym z) (λ q. omega arith))
       ∙ ap (λ (n : ℕ). reply-of.Rejected 4 n) e

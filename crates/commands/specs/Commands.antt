@@ -5,6 +5,7 @@ use mathlib.Core.List.{List}
 use lib.Dec.{eqb}
 use lib.IntN.{ℤ}
 use lib.ListN.{length, drop}
+use lib.Ieee.{Float, binary64, toBits}
 use Rattle.state.specs.States.{noState}
 use Rattle.state.specs.Switching.{switchToEven}
 use Rattle.state.specs.declared.State.{State}
@@ -13,14 +14,18 @@ use Rattle.state.specs.declared.Outcome.the-variants as outcome-of
 use Rattle.state.specs.declared.Answer.{Answer}
 use Rattle.state.specs.declared.Answer.the-variants as answer-of
 use Rattle.ets.specs.Steps.{step, missing}
-use Rattle.forecasts.specs.Forecasts.{forecast}
+use Rattle.forecasts.specs.Forecasts.{maxHorizon, forecast}
 use Rattle.weights.specs.Weights.{variance}
 use Rattle.weights.specs.declared.Variance.{Variance}
 use Rattle.weights.specs.declared.Variance.the-variants as variance-of
 use Rattle.snapshot.specs.Snapshots.{openCode, openOffset, read}
 use Rattle.saving.specs.Encoding.{encoded}
 use Rattle.saving.specs.Saving.{save, savedBytes}
+use Rattle.relative.specs.Relative.{relativeVariance}
+use Rattle.relative.specs.declared.RelativeVariance.{RelativeVariance}
+use Rattle.relative.specs.declared.RelativeVariance.the-variants as relative-of
 use Rattle.decoding.specs.Decoding.{decode}
+use Rattle.decoding.specs.declared.Decoded.{Decoded}
 use Rattle.decoding.specs.declared.Command.{Command}
 use Rattle.decoding.specs.declared.Command.the-variants as command-of
 use Rattle.replies.specs.declared.Reply.{Reply}
@@ -55,6 +60,10 @@ byAnswer (answer-of.Rejected code) a r = r code
 abbrev pub byVariance : Variance → (ℕ → ℕ → Performed) → (ℕ → Performed) → Performed
 byVariance (variance-of.Accepted high low) a r = a high low
 byVariance (variance-of.Rejected code) a r = r code
+
+abbrev pub byRelative : RelativeVariance → (Float → Performed) → (ℕ → Performed) → Performed
+byRelative (relative-of.Accepted v) a r = a v
+byRelative (relative-of.Rejected code) a r = r code
 
 -- after the last command: the count, 0 if no state is open
 unfoldable pub finish : Session → Performed
@@ -101,6 +110,11 @@ unfoldable pub giveVariance : Session → ℕ → ℕ → ℕ → Performed
 giveVariance x next h sigma2 =
     byVariance (variance (x .state) h sigma2) (λ (high low : ℕ). accepted (reply-of.Variance h high low) next (x .state)) (λ (code : ℕ). rejected code (x .at) x)
 
+-- 32 (document 02, W-205): the answer's 64 bits; there is room for every θ
+unfoldable pub giveRelativeVariance : Session → ℕ → ℕ → ℕ → Performed
+giveRelativeVariance x next h sigma2 =
+    byRelative (relativeVariance (x .state) h sigma2 maxHorizon) (λ (v : Float). accepted (reply-of.RelativeVariance h (toBits binary64 v)) next (x .state)) (λ (code : ℕ). rejected code (x .at) x)
+
 -- 40: saving writes the group of the state into a buffer of so much room
 unfoldable pub saveState : Session → ℕ → ℕ → Performed
 saveState x next room =
@@ -117,6 +131,7 @@ act s x room next (command-of.Variance h sigma2) = giveVariance x next h sigma2
 act s x room next command-of.Save = saveState x next room
 act s x room next (command-of.Rejected code) = rejected code (x .at) x
 act s x room next command-of.SwitchToEven = switchState x next
+act s x room next (command-of.RelativeVariance h sigma2) = giveRelativeVariance x next h sigma2
 
 -- what the buffer then holds
 abbrev pub buffered : Session → List ℕ → Command → List ℕ
@@ -129,15 +144,20 @@ buffered x buffer (command-of.Variance h sigma2) = buffer
 buffered x buffer command-of.Save = savedBytes (x .state) buffer
 buffered x buffer (command-of.Rejected code) = buffer
 buffered x buffer command-of.SwitchToEven = buffer
+buffered x buffer (command-of.RelativeVariance h sigma2) = buffer
 
--- the call: the command at the session's offset, finished before the next is looked at
+-- the command at the session's offset
+abbrev pub nextCommand : List ℕ → Session → Decoded
+nextCommand s x = decode s (x .at) (x .active) (x .state .model)
+
+-- the call: that command, finished before the next is looked at
 unfoldable pub perform : List ℕ → Session → ℕ → Performed
 perform s x room =
-    let d = decode s (x .at) (x .active) in
+    let d = nextCommand s x in
     act s x room (d .next) (d .command)
 
 unfoldable pub performBytes : List ℕ → Session → List ℕ → List ℕ
-performBytes s x buffer = buffered x buffer (decode s (x .at) (x .active) .command)
+performBytes s x buffer = buffered x buffer (nextCommand s x .command)
 
 -- X and N are a stream's last answers
 abbrev pub isLast : Reply → Bool
@@ -150,3 +170,4 @@ isLast (reply-of.Saved n) = false
 isLast (reply-of.Rejected code offset) = true
 isLast (reply-of.Ended count) = true
 isLast reply-of.Silent = false
+isLast (reply-of.RelativeVariance h bits) = false

@@ -4,18 +4,18 @@ use mathlib.Core.Path.{_≡_}
 use mathlib.Core.Bool.{true, false, cond}
 use mathlib.Core.List.{List, [], _∷_, _++_}
 use lib.ListN.{length, drop, getD}
+use Rattle.models.specs.Models.{hasRelativeErrors}
 use Rattle.state.specs.Rejections.{input-too-long, out-of-place, truncated}
 use Rattle.state.specs.States.{check}
 use Rattle.state.specs.Switching.{switched}
 use Rattle.state.specs.declared.State.{State}
 use Rattle.snapshot.specs.Snapshots.{openCode, openOffset, decoded}
 use Rattle.saving.specs.Encoding.{encoded}
-use Rattle.decoding.specs.Decoding.{decode}
 use Rattle.decoding.specs.declared.Command.the-variants as command-of
 use Rattle.lines.specs.Lines.{lineOf, writeLine}
 use Rattle.replies.specs.declared.Reply.the-variants as reply-of
 use Rattle.lines.specs.declared.Line.the-variants as line-of
-use Rattle.commands.specs.Commands.{start, accepted, rejected, perform, isLast}
+use Rattle.commands.specs.Commands.{start, accepted, rejected, nextCommand, perform, isLast}
 use Rattle.commands.specs.Stream.{inputLimit, lineRoom, next, answersFrom, answers, lineAfter, textOf, text}
 use Rattle.commands.specs.declared.Session.{Session}
 use Rattle.commands.specs.declared.Performed.{Performed}
@@ -54,12 +54,12 @@ pub record Replaced (s : List ℕ) (x : Session) (room : ℕ) : Type 0 where
   pub otherwise : (openCode (drop (x .at) s) ≡ 0 → ⊥) → perform s x room .session ≡ x
 
 pub record Openings : Type 0 where
-  pub replaced : (s : List ℕ) (x : Session) (room : ℕ) → decode s (x .at) (x .active) .command ≡ command-of.Open → Replaced s x room
+  pub replaced : (s : List ℕ) (x : Session) (room : ℕ) → nextCommand s x .command ≡ command-of.Open → Replaced s x room
 
 -- X: 0 for refusal 1, and the input's length where refusal 4 finds no command begun
 pub record Offsets : Type 0 where
   pub long : (s : List ℕ) → inputLimit < length s → answers s ≡ rejected input-too-long 0 start ∷ []
-  pub none : (s : List ℕ) (x : Session) (room : ℕ) → decode s (x .at) (x .active) .command ≡ command-of.Open
+  pub none : (s : List ℕ) (x : Session) (room : ℕ) → nextCommand s x .command ≡ command-of.Open
       → openCode (drop (x .at) s) ≡ truncated → length (drop (x .at) s) ≤ openOffset (drop (x .at) s)
       → perform s x room .reply ≡ reply-of.Rejected truncated (length s)
 
@@ -70,6 +70,13 @@ pub record Switches : Type 0 where
   pub opened : (s : List ℕ) (x : Session) (room : ℕ) → x .at < length s → getD s (x .at) 0 ≡ 0x14 → x .active ≡ true → Sound x
       → perform s x room ≡ accepted reply-of.Silent (x .at + 1) (switched (x .state))
   pub line : (saved : List ℕ) → lineOf reply-of.Silent saved ≡ []
+
+-- document 02, W-205: 31 is refusal 3 for a model with multiplicative errors, 32 for one with additive errors, whether or not their operands are there
+pub record ErrorKinds : Type 0 where
+  pub additive : (s : List ℕ) (x : Session) (room : ℕ) → x .at < length s → getD s (x .at) 0 ≡ 0x31 → hasRelativeErrors (x .state .model) ≡ true
+      → perform s x room ≡ rejected out-of-place (x .at) x
+  pub relative : (s : List ℕ) (x : Session) (room : ℕ) → x .at < length s → getD s (x .at) 0 ≡ 0x32 → hasRelativeErrors (x .state .model) ≡ false
+      → perform s x room ≡ rejected out-of-place (x .at) x
 
 -- the listing: model 0, A = 32768, all else 0, then reading 10, forecast 2, variance 2 with σ² 4
 abbrev pub listing : List ℕ

@@ -9,6 +9,7 @@ use lines::Line;
 use lines::write_line;
 use performing::finish;
 use performing::give_forecast;
+use performing::give_relative_variance;
 use performing::give_variance;
 use performing::open_snapshot;
 use performing::reject;
@@ -77,6 +78,10 @@ pub fn is_last(reply: Reply) -> bool
         } => false,
         Reply::Saved(_) => false,
         Reply::Silent => false,
+        Reply::RelativeVariance {
+            horizon: _,
+            bits: _,
+        } => false,
     }
 }
 
@@ -106,7 +111,7 @@ pub fn perform(stream: &[u8], session: Session, buffer: &mut [u8]) -> Performed
     ensures answer { λ r. ⌜ r ≡ perform (now (stream .entry)) session (length (now (buffer .entry))) ⌝ }
     ensures bytes { λ _. ⌜ now (buffer .exit) ≡ performBytes (now (stream .entry)) session (now (buffer .entry)) ⌝ }
 {
-    let found = decode(stream, session.at, session.active);
+    let found = decode(stream, session.at, session.active, session.state.model);
     let command = found.command;
     let next = found.next;
     match command {
@@ -119,6 +124,9 @@ pub fn perform(stream: &[u8], session: Session, buffer: &mut [u8]) -> Performed
         Command::Save => save_state(session, next, buffer),
         Command::Rejected(code) => reject(code, session.at, session),
         Command::SwitchToEven => switch_state(session, next),
+        Command::RelativeVariance { horizon, sigma2 } => {
+            give_relative_variance(session, next, horizon, sigma2)
+        }
     }
 }
 

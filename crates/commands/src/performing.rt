@@ -5,6 +5,8 @@ use ets::steps::missing;
 use ets::steps::step;
 use forecasts::forecast;
 use layout::Length;
+use relative::RelativeVariance;
+use relative::relative_variance;
 use replies::Reply;
 use saving::bytes_needed;
 use saving::save;
@@ -21,7 +23,7 @@ ghost use Prim.Native.Nat.{_≤_};
 ghost use lib.ListN.{length};
 ghost use Rattle.layout.specs.Answers.{lengthValue};
 ghost use Rattle.saving.specs.Saving.{bytesNeeded, savedBytes};
-ghost use Rattle.commands.specs.Commands.{accepted, rejected, finish, openSnapshot, takeReading, takeMissing, switchState, giveForecast, giveVariance, saveState};
+ghost use Rattle.commands.specs.Commands.{accepted, rejected, finish, openSnapshot, takeReading, takeMissing, switchState, giveForecast, giveVariance, giveRelativeVariance, saveState};
 
 pub fn reject(code: u8, offset: usize, x: Session) -> Performed
     ensures { λ r. ⌜ r ≡ rejected code offset x ⌝ }
@@ -134,6 +136,21 @@ pub fn give_variance(x: Session, next: usize, horizon: u32, sigma2: u32) -> Perf
             x.state,
         ),
         Variance::Rejected(code) => reject(code, x.at, x),
+    }
+}
+
+// The θ are not printed; there is room for those of every horizon.
+pub fn give_relative_variance(x: Session, next: usize, horizon: u32, sigma2: u64) -> Performed
+    ensures { λ r. ⌜ r ≡ giveRelativeVariance x next horizon sigma2 ⌝ }
+{
+    let mut thetas = [0.0f64; 512];
+    let found = relative_variance(x.state, horizon, sigma2, &mut thetas);
+    match found {
+        RelativeVariance::Accepted(v) => {
+            let bits = f64::to_bits(v);
+            accept(Reply::RelativeVariance { horizon, bits }, next, x.state)
+        }
+        RelativeVariance::Rejected(code) => reject(code, x.at, x),
     }
 }
 

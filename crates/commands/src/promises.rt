@@ -1,5 +1,5 @@
 // What holds of every stream and every session.
-ghost use Rattle.commands.specs.Promises.{Sessions, Answers, Openings, Offsets, Switches, Listing};
+ghost use Rattle.commands.specs.Promises.{Sessions, Answers, Openings, Offsets, Switches, ErrorKinds, Listing};
 
 pub fn sessions()
     ensures { λ _. ⌜ Sessions ⌝ }
@@ -20,6 +20,11 @@ pub fn offsets()
 // What command 14 does.
 pub fn switches()
     ensures { λ _. ⌜ Switches ⌝ }
+{}
+
+// Which models 31 and 32 are for.
+pub fn error_kinds()
+    ensures { λ _. ⌜ ErrorKinds ⌝ }
 {}
 
 // The document's listing, byte for byte.

@@ -28,7 +28,7 @@ use Rattle.drift.specs.Limits.{AtMost, AllWithin}
 use Rattle.drift.specs.Pins.{beside, compared}
 use Rattle.drift.proofs.Runs.{first}
 use Rattle.damped.specs.Limits.{scaledK, GainsWithinOne, WithinOneStep, Opening}
-use Rattle.damped.specs.Pins.{Refused, apart, rising, Attained, readings, Needed, opening, calls, Shown, Pins}
+use Rattle.damped.specs.Pins.{Refused, apart, rising, Attained, readings, Needed, opening, relative, calls, Shown, Pins}
 use Rattle.damped.proofs.Damped.{one-step-forecasts}
 
 refused : Refused
@@ -82,9 +82,13 @@ opens-even : Opening (switched opening)
 unfolding check parametersCode allBelow sumOf sumOk
 opens-even = opens _ _ _ _ _ _ _ _ refl refl refl (leb→le _ _ tt) (record { lt = tt })
 
+opens-relative : Opening relative
+unfolding check parametersCode allBelow sumOf sumOk
+opens-relative = opens _ _ _ _ _ _ _ _ refl refl refl (leb→le _ _ tt) (record { lt = tt })
+
 shown : Shown
 unfolding compared calls after result switchToEven inPlaceSwitchBytes check parametersCode allBelow sumOf sumOk R share dampedTrend seasonDue residual newLevel newTrend newSeason newSeasonal squareOf scoreAfter nextIndex stepCode advanced missingCode step missing takeCode afterTake run batchRun batch batchLevels trendAt trendLine seasonAt forecastOf forecastCodeTo forecastTo forecastList forecastsCodeTo forecastsTo forecastCellsTo fromBytes toBytes commandSize isCommand dueCode modelCode levelCode scoreCode seasonCode scanSeasons positionCode scan cellsAt decoded modelBytes levelBytes scoreBytes seasonBytes seasonsBytes positionBytes encoded inPlaceCode inPlaceStepCode inPlaceStepBytes inPlaceMissingCode inPlaceMissingBytes inPlaceForecastCode inPlaceForecast exactDamped exactResidual adjusted exactSeason exactTake exactBatch exactTrendAt exactLine exactForecast exactAfter expectedLevels expectedForecasts expected
-shown = record { opens = opens-late; opens-even = opens-even; holds = one-step-forecasts opening opens-late calls; rule-after = refl; compares = refl }
+shown = record { opens = opens-late; opens-even = opens-even; opens-relative = opens-relative; holds = one-step-forecasts opening opens-late calls; rule-after = refl; compares = refl }
 
 pub pins : Pins
 pins = record { refused = refused; attained = attained; needed = needed; shown = shown }

@@ -138,6 +138,10 @@ pub record Needed : Type 0 where
 abbrev pub opening : State
 opening = stateOf false 2 0 20000 10001 0 40000 (pos 100) (pos 7) [] 0 281474976710652 noScore
 
+-- the same with multiplicative errors, by bit 3 (document 02, W-205)
+abbrev pub relative : State
+relative = stateOf false 10 0 20000 10001 0 40000 (pos 100) (pos 7) [] 0 281474976710652 noScore
+
 unfoldable pub calls : List Call
 calls =
     Forecast maxHorizon 1
@@ -160,6 +164,7 @@ pub record Shown : Type 0 where
   pub opens : Opening opening
   -- with ties to even from the start
   pub opens-even : Opening (switched opening)
+  pub opens-relative : Opening relative
   pub holds : ClaimOf opening (opened opening) calls
   pub rule-after : tiesToEven (after opening calls .model) ≡ true
   pub compares : compared (parametersOf opening) opening (opened opening) calls

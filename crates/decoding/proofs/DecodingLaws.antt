@@ -15,10 +15,10 @@ use Rattle.layout.specs.Answers.{lengthAnswer}
 use Rattle.layout.specs.Bytes.{fromBytes, unsignedAt}
 use Rattle.layout.specs.CommandTable.{commandSize, isCommand, onlyInSnapshot, opens, commandLength}
 use Rattle.layout.specs.declared.Length.the-variants as length-of
-use Rattle.decoding.specs.Decoding.{commandCode, operands, decoded, decode}
+use Rattle.decoding.specs.Decoding.{errorsFit, inPlace, commandCode, operands, decoded, decode}
 use Rattle.decoding.specs.declared.Command.the-variants as command-of
 
--- ---- operands of two and of four bytes
+-- ---- operands of two, four and eight bytes
 pub two-bytes : (s : List ℕ) (at : ℕ) → at + 2 ≤ length s → unsignedAt s at 2 ≡ getD s at 0 + 256 * getD s (at + 1) 0
 unfolding fromBytes
 two-bytes s at h =
@@ -36,6 +36,20 @@ four-bytes s at h =
     let c : suc (suc at) < length s = omega arith in
     let d : suc (suc (suc at)) < length s = omega arith in
     rw (e, drop-cons s at 0, drop-cons s (suc at) 0, drop-cons s (suc (suc at)) 0, drop-cons s (suc (suc (suc at))) 0) (omega arith)
+
+pub eight-bytes : (s : List ℕ) (at : ℕ) → at + 8 ≤ length s → unsignedAt s at 8 ≡ unsignedAt s at 4 + 4294967296 * unsignedAt s (at + 4) 4
+unfolding fromBytes
+eight-bytes s at h =
+    let e : at + 4 ≡ suc (suc (suc (suc at))) = omega arith in
+    let l0 : at < length s = omega arith in
+    let l1 : suc at < length s = omega arith in
+    let l2 : suc (suc at) < length s = omega arith in
+    let l3 : suc (suc (suc at)) < length s = omega arith in
+    let l4 : suc (suc (suc (suc at))) < length s = omega arith in
+    let l5 : suc (suc (suc (suc (suc at)))) < length s = omega arith in
+    let l6 : suc (suc (suc (suc (suc (suc at))))) < length s = omega arith in
+    let l7 : suc (suc (suc (suc (suc (suc (suc at)))))) < length s = omega arith in
+    rw (e, drop-cons s at 0, drop-cons s (suc at) 0, drop-cons s (suc (suc at)) 0, drop-cons s (suc (suc (suc at))) 0, drop-cons s (suc (suc (suc (suc at)))) 0, drop-cons s (suc (suc (suc (suc (suc at))))) 0, drop-cons s (suc (suc (suc (suc (suc (suc at)))))) 0, drop-cons s (suc (suc (suc (suc (suc (suc (suc at))))))) 0) (omega arith)
 
 -- ---- the length of a command, as the table told it
 module _ (b n : ℕ) where
@@ -60,23 +74,23 @@ module _ (b n : ℕ) where
       go false e = (refl, cc)
 
 -- ---- a command is decoded: the end, then 2, 3, 4, then its operands
-module _ (s : List ℕ) (at : ℕ) (active : Bool) where
+module _ (s : List ℕ) (at : ℕ) (active : Bool) (model : ℕ) where
   abbrev b : ℕ
   b = getD s at 0
 
   abbrev Due : Bool → Type 0
-  Due t = (not (onlyInSnapshot b) && (active || opens b)) ≡ t
+  Due t = inPlace b active model ≡ t
 
-  pub decode-end : length s ≤ at → decode s at active ≡ decoded command-of.End at
+  pub decode-end : length s ≤ at → decode s at active model ≡ decoded command-of.End at
   unfolding decode
   decode-end h = rw (le-leb (length s) at h)
 
-  pub inside : decode s at active .command ≡ command-of.Open → at ≤ length s
+  pub inside : decode s at active model .command ≡ command-of.Open → at ≤ length s
   unfolding decode
   inside e = go (leb (length s) at) refl e
     where
       go : (t : Bool) → leb (length s) at ≡ t
-          → cond t (decoded command-of.End at) (cond (eqb (commandCode s at active) 0) (decoded (operands s at) (at + commandSize b)) (decoded (command-of.Rejected (commandCode s at active)) at)) .command ≡ command-of.Open
+          → cond t (decoded command-of.End at) (cond (eqb (commandCode s at active model) 0) (decoded (operands s at) (at + commandSize b)) (decoded (command-of.Rejected (commandCode s at active model)) at)) .command ≡ command-of.Open
           → at ≤ length s
       go true q e =
           let z : _≡_ {A = ℕ} 0 1 = cc in
@@ -84,19 +98,19 @@ module _ (s : List ℕ) (at : ℕ) (active : Bool) where
       go false q e = omega (arith, leb-false (length s) at q)
 
   module _ (h : at < length s) where
-    pub decode-unknown : isCommand b ≡ false → decode s at active ≡ decoded (command-of.Rejected 2) at
+    pub decode-unknown : isCommand b ≡ false → decode s at active model ≡ decoded (command-of.Rejected 2) at
     unfolding decode commandCode
     decode-unknown u = rw (lt-leb (length s) at h, u)
 
-    pub decode-stray : isCommand b ≡ true → Due false → decode s at active ≡ decoded (command-of.Rejected 3) at
+    pub decode-stray : isCommand b ≡ true → Due false → decode s at active model ≡ decoded (command-of.Rejected 3) at
     unfolding decode commandCode
     decode-stray u v = rw (lt-leb (length s) at h, u, v)
 
-    pub decode-short : isCommand b ≡ true → Due true → length s - at < commandSize b → decode s at active ≡ decoded (command-of.Rejected 4) at
+    pub decode-short : isCommand b ≡ true → Due true → length s - at < commandSize b → decode s at active model ≡ decoded (command-of.Rejected 4) at
     unfolding decode commandCode
     decode-short u v w = rw (lt-leb (length s) at h, u, v, lt-leb (commandSize b) (length s - at) w)
 
-    pub decode-whole : isCommand b ≡ true → Due true → commandSize b ≤ length s - at → decode s at active ≡ decoded (operands s at) (at + commandSize b)
+    pub decode-whole : isCommand b ≡ true → Due true → commandSize b ≤ length s - at → decode s at active model ≡ decoded (operands s at) (at + commandSize b)
     unfolding decode commandCode
     decode-whole u v w = rw (lt-leb (length s) at h, u, v, le-leb (commandSize b) (length s - at) w)
 
@@ -110,15 +124,16 @@ pub record Whole (s : List ℕ) (at : ℕ) (active : Bool) : Type 0 where
   pub least : 0 < commandSize (getD s at 0)
   pub most : commandSize (getD s at 0) ≤ length s - at
 
-pub whole-command : (s : List ℕ) (at : ℕ) (active : Bool) → commandCode s at active ≡ 0 → Whole s at active
-unfolding commandCode isCommand
-whole-command s at active e =
+pub whole-command : (s : List ℕ) (at : ℕ) (active : Bool) (model : ℕ) → commandCode s at active model ≡ 0 → Whole s at active
+unfolding commandCode isCommand inPlace
+whole-command s at active model e =
     let b = getD s at 0 in
-    let due = not (onlyInSnapshot b) && (active || opens b) in
+    let open-or-opens = not (onlyInSnapshot b) && (active || opens b) in
+    let due = open-or-opens && errorsFit b model in
     let c = unless-then (isCommand b) 1 (unless due out-of-place then unless (leb (commandSize b) (length s - at)) truncated) e in
     let d = unless-then due 2 (unless (leb (commandSize b) (length s - at)) truncated) (c .1) in
     record {
-      due = both (not (onlyInSnapshot b)) (active || opens b) (d .0) .1;
+      due = both (not (onlyInSnapshot b)) (active || opens b) (both open-or-opens (errorsFit b model) (d .0) .0) .1;
       least = size-least (commandSize b) (c .0);
       most = leb-true (commandSize b) (length s - at) (unless-zero _ 3 (d .1));
     }

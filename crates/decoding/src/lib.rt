@@ -5,11 +5,12 @@ use layout::Length;
 use layout::command_length;
 use layout::only_in_snapshot;
 use layout::opens;
+use models::errors_are;
 use operands::operands;
 use state::OUT_OF_PLACE;
 use state::TRUNCATED;
 ghost use mathlib.Core.Path.{_≡_};
-ghost use Rattle.decoding.specs.Decoding.{decode};
+ghost use Rattle.decoding.specs.Decoding.{inPlace, decode};
 
 pub enum Command {
     // No command: the stream ends.
@@ -23,6 +24,8 @@ pub enum Command {
     // By 2, 3 or 4.
     Rejected(u8),
     SwitchToEven,
+    // By the 64 bits of its σ².
+    RelativeVariance { horizon: u32, sigma2: u64 },
 }
 
 // A command, and the offset after it.
@@ -31,9 +34,18 @@ pub struct Decoded {
     pub next: usize,
 }
 
-// The command at an offset, where a state is open or not.
-pub fn decode(s: &[u8], at: usize, active: bool) -> Decoded
-    ensures { λ r. ⌜ r ≡ decode (now (s .entry)) at active ⌝ }
+// A command's place outside a snapshot: 31 is for additive errors, 32 for multiplicative ones.
+fn in_place(b: u8, active: bool, model: u8) -> bool
+    ensures { λ r. ⌜ r ≡ inPlace b active model ⌝ }
+{
+    let variance = (b == 0x31) | (b == 0x32);
+    let fits = !variance | errors_are(b == 0x32, model);
+    !only_in_snapshot(b) & (active | opens(b)) & fits
+}
+
+// The command at an offset, where a state is open or not, with its model byte.
+pub fn decode(s: &[u8], at: usize, active: bool, model: u8) -> Decoded
+    ensures { λ r. ⌜ r ≡ decode (now (s .entry)) at active model ⌝ }
 {
     if s.len() <= at {
         return Decoded {
@@ -45,8 +57,7 @@ pub fn decode(s: &[u8], at: usize, active: bool) -> Decoded
     let size = command_length(b);
     match size {
         Length::Bytes(n) => {
-            let due = !only_in_snapshot(b) & (active | opens(b));
-            if !due {
+            if !in_place(b, active, model) {
                 return Decoded {
                     command: Command::Rejected(OUT_OF_PLACE),
                     next: at,

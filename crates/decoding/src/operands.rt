@@ -1,4 +1,4 @@
-// Operands of 16 and 32 bits, low byte first, where the stream has so many bytes.
+// Operands of 16, 32 and 64 bits, low byte first, where the stream has so many bytes.
 use super::Command;
 use layout::opens;
 ghost use mathlib.Core.Path.{_≡_};
@@ -24,6 +24,13 @@ pub fn read_u32(s: &[u8], at: usize) -> u32
     ensures { λ r. ⌜ r ≡ unsignedAt (now (s .entry)) at 4 ⌝ }
 {
     read_u16(s, at) + 65536 * read_u16(s, at + 2)
+}
+
+pub fn read_u64(s: &[u8], at: usize) -> u64
+    requires { ⌜ at + 8 ≤ length (now s) ⌝ }
+    ensures { λ r. ⌜ r ≡ unsignedAt (now (s .entry)) at 8 ⌝ }
+{
+    (read_u32(s, at) as u64) + 0x1_0000_0000 * (read_u32(s, at + 4) as u64)
 }
 
 // Signed, in two's complement.
@@ -61,6 +68,12 @@ pub fn operands(s: &[u8], at: usize) -> Command
         return Command::Variance {
             horizon: read_u16(s, at + 1),
             sigma2: read_u32(s, at + 3),
+        };
+    }
+    if b == 0x32 {
+        return Command::RelativeVariance {
+            horizon: read_u16(s, at + 1),
+            sigma2: read_u64(s, at + 3),
         };
     }
     if b == 0x14 {

@@ -25,7 +25,7 @@ use Rattle.traces.specs.Calls.{result, after}
 use Rattle.drift.specs.Exact.{exactDamped, exactResidual, adjusted, exactSeason, exactTake, exactBatch, exactTrendAt, exactLine, exactForecast, exactAfter, expectedLevels, expectedForecasts, expected}
 use Rattle.drift.specs.Limits.{AtMost, WithinLimit, AllWithin, Opening}
 use Rattle.drift.specs.Components.{StepError}
-use Rattle.drift.specs.Pins.{seasonal, damped, standing, ClaimOf, Refused, beside, creep, creepAcross, Attained, compared, falling, gaps, creeping, Needed, opening, calls, Shown, Pins}
+use Rattle.drift.specs.Pins.{seasonal, damped, standing, ClaimOf, Refused, beside, creep, creepAcross, Attained, compared, falling, gaps, creeping, Needed, opening, relative, calls, Shown, Pins}
 use Rattle.drift.proofs.Runs.{first}
 use Rattle.drift.proofs.Drift.{demand3}
 
@@ -83,13 +83,17 @@ opens-outside : Opening (creeping (pos 0))
 unfolding check parametersCode allBelow sumOf sumOk
 opens-outside = record { typed = record { cells = refl; low = lit< tt }; passes = refl; trendless = refl }
 
+opens-relative : Opening relative
+unfolding check parametersCode allBelow sumOf sumOk
+opens-relative = record { typed = record { cells = refl; low = lit< tt }; passes = refl; trendless = refl }
+
 stepped : StepError (damped 0 1 (pos 0) (pos 1000000)) (pos 0)
 unfolding AtMost R share dampedTrend seasonDue residual newLevel newTrend newSeason newSeasonal squareOf scoreAfter nextIndex exactDamped exactResidual adjusted exactSeason
 stepped = record { level = leb→le _ _ tt; trend = leb→le _ _ tt; seasons = λ k l. absurd (omega arith) }
 
 shown : Shown
 unfolding compared calls after result switchToEven inPlaceSwitchBytes check parametersCode allBelow sumOf sumOk R share dampedTrend seasonDue residual newLevel newTrend newSeason newSeasonal squareOf scoreAfter nextIndex stepCode advanced missingCode step missing takeCode afterTake run batchRun batch batchLevels trendAt trendLine seasonAt forecastOf forecastCodeTo forecastTo forecastList forecastsCodeTo forecastsTo forecastCellsTo fromBytes toBytes commandSize isCommand dueCode modelCode levelCode scoreCode seasonCode scanSeasons positionCode scan cellsAt decoded modelBytes levelBytes scoreBytes seasonBytes seasonsBytes positionBytes encoded inPlaceCode inPlaceStepCode inPlaceStepBytes inPlaceMissingCode inPlaceMissingBytes inPlaceForecastCode inPlaceForecast exactDamped exactResidual adjusted exactSeason exactTake exactBatch exactTrendAt exactLine exactForecast exactAfter expectedLevels expectedForecasts expected
-shown = record { step = stepped; opens = opens; opens-outside = opens-outside; holds = demand3 opening opens calls; rule-before = refl; rule-after = refl; short = refl; compares = refl }
+shown = record { step = stepped; opens = opens; opens-outside = opens-outside; opens-relative = opens-relative; holds = demand3 opening opens calls; rule-before = refl; rule-after = refl; short = refl; compares = refl }
 
 pub pins : Pins
 pins = record { refused = refused; attained = attained; needed = needed; shown = shown }

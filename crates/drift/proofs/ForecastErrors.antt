@@ -1,23 +1,20 @@
 -- The forecast from the same state against the exact one.
 use mathlib.Core.Path.{_≡_, refl, sym, _∙_, ap}
-use mathlib.Core.Bool.{Bool, true, false, cond, not}
-use Prim.Native.Nat.{ℕ, zero, suc, _+_, _*_, _-_, _/_, _%_, _^_, _≤_, _<_}
+use mathlib.Core.Bool.{Bool, true, false, cond}
+use Prim.Native.Nat.{ℕ, zero, suc, _+_, _*_, _-_, _%_, _^_, _≤_, _<_}
 use native.Mathlib.Nat.{le-refl, pow-succ'}
 use native.Mathlib.Omega.{arith}
-use lib.Bits.{bitAnd}
-use lib.Dec.{eqb}
 use lib.IntN.{ℤ, pos, negsuc, natAbs, _+ℤ_, _-ℤ_, _*ℤ_, zero-*ℤ}
 use lib.ListN.{getD}
-use borrow.Author.Tests.{eqb-true, eqb-false, not-true}
+use borrow.Author.Tests.{eqb-true}
 use Rattle.integers.specs.Bounds.{Within}
 use Rattle.integers.proofs.Difference.{diff, ints, known, sum, scaled}
 use Rattle.integers.proofs.Bounds.{within-zero, within-add, within-mul, within-parts}
 use Rattle.state.specs.Fixed.{share}
-use Rattle.models.specs.Models.{trendOf, hasSeason, validModel, dampingOk, tiesToEven}
+use Rattle.models.specs.Models.{trendOf, hasSeason, dampingOk, tiesToEven}
 use Rattle.state.specs.States.{check}
 use Rattle.state.specs.declared.State.{State}
-use Rattle.integers.proofs.Tests.{both}
-use Rattle.models.proofs.ModelLaws.{model-law, valid-small}
+use Rattle.models.proofs.ModelLaws.{no-third}
 use Rattle.state.proofs.Rounding.{share-error, share-one, share-none}
 use Rattle.state.proofs.Passing.{allowed, passed, bounded}
 use Rattle.forecasts.specs.Forecasts.{trendAt, trendLine, seasonAt, forecastOf}
@@ -114,11 +111,6 @@ whole-line s w (suc h) =
     (ap (λ (z : ℤ). pos 65536 *ℤ exactLine (parametersOf s) (opened s) h +ℤ z) (ap (λ (p : ℕ). pos p *ℤ trendAt (tiesToEven (s .model)) (s .phi) (s .trend) (suc h)) (sym (pow-succ' 65536 h)) ∙ whole-trend (tiesToEven (s .model)) (s .phi) (s .trend) w (suc h)))
 
 -- ---- which factor a model without damping has
-no-third : (b : ℕ) → validModel b ≡ true → trendOf b ≡ 3 → ⊥
-no-third b h e =
-    let t = both (eqb (bitAnd b 0xb8) 0) (not (eqb (b % 4) 3)) (model-law b (valid-small b h) ∙ h) in
-    eqb-false (b % 4) 3 (not-true (eqb (b % 4) 3) (t .1)) e
-
 undamped-phi : (even : Bool) (t F : ℕ) → t < 4 → (t ≡ 3 → ⊥) → (t ≡ 2 → ⊥) → dampingOk t F ≡ true → Whole even F
 undamped-phi even zero F l h k d = λ z. rw (eqb-true F 0 d, share-none even z, zero-*ℤ z)
 undamped-phi even (suc zero) F l h k d = λ z. rw (eqb-true F 65536 d) (ap (λ (x : ℤ). pos 65536 *ℤ x) (share-one even z))

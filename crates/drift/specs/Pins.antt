@@ -154,6 +154,10 @@ pub record Needed : Type 0 where
 abbrev pub opening : State
 opening = stateOf false 4 2 20000 0 30001 0 (pos 0) (pos 0) (pos 65536 ∷ negsuc 65535 ∷ []) 0 281474976710651 noScore
 
+-- the same with multiplicative errors, by bit 3 (document 02, W-205)
+abbrev pub relative : State
+relative = stateOf false 12 2 20000 0 30001 0 (pos 0) (pos 0) (pos 65536 ∷ negsuc 65535 ∷ []) 0 281474976710651 noScore
+
 unfoldable pub calls : List Call
 calls =
     Reading (pos 5)
@@ -182,6 +186,8 @@ pub record Shown : Type 0 where
   pub opens : Opening opening
   -- a state that 18 opened is an opening state too
   pub opens-outside : Opening (creeping (pos 0))
+  -- and so is one with multiplicative errors
+  pub opens-relative : Opening relative
   pub holds : ClaimOf opening (opened opening) calls
   -- ties went up before the switch and go to even after the list
   pub rule-before : tiesToEven (after opening (Reading (pos 5) ∷ InPlaceSwitch (followed (0x14 ∷ [])) ∷ []) .model) ≡ false

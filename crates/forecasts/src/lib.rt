@@ -24,11 +24,12 @@ ghost use lib.ListN.{length};
 ghost use Rattle.forecasts.specs.Forecasts.{horizonOk, forecastCodeTo, forecastTo, forecastsTo, forecastCellsTo, forecastCode, forecast, forecasts, forecastCells, displayForecast, displayForecasts, displayForecastCells, forecastFromCode, forecastFrom};
 
 // The longest horizon; and that of the bedside display, which has 48 cells (document 02, W-206).
-const MAX_HORIZON: u32 = 512;
+pub const MAX_HORIZON: u32 = 512;
 
 const DISPLAY_HORIZON: u32 = 48;
 
-fn horizon_ok(limit: u32, h: u32) -> bool
+// Whether a horizon is at least 1 and not above a limit.
+pub fn horizon_ok(limit: u32, h: u32) -> bool
     ensures { λ r. ⌜ r ≡ horizonOk limit h ⌝ }
 {
     (1 <= h) & (h <= limit)

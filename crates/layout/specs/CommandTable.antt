@@ -1,4 +1,4 @@
--- Document 01, "Commands", and document 02, W-201 (18), W-211 (14) and W-204 (15): each command's first byte, its length with its operands, and whether only a snapshot (the paper's group) holds it.
+-- Document 01, "Commands", and document 02, W-201 (18), W-211 (14), W-204 (15) and W-205 (32): each command's first byte, its length with its operands, and whether only a snapshot (the paper's group) holds it.
 use Prim.Native.Nat.{ℕ}
 use mathlib.Core.Bool.{Bool, true, false, cond, not, _||_}
 use mathlib.Core.List.{List, [], _∷_}
@@ -48,6 +48,7 @@ commands =
     ∷ command 0x21 1 false
     ∷ command 0x30 3 false
     ∷ command 0x31 7 false
+    ∷ command 0x32 11 false
     ∷ command 0x40 1 false
     ∷ []
 

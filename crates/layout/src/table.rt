@@ -34,6 +34,7 @@ pub fn entry_of(b: u8) -> Entry
         0x21 => Entry(1, false),
         0x30 => Entry(3, false),
         0x31 => Entry(7, false),
+        0x32 => Entry(11, false),
         0x40 => Entry(1, false),
         _ => Entry(0, false),
     }

@@ -13,7 +13,7 @@ use Rattle.state.specs.Rejections.{unless}
 use Rattle.replies.specs.Replies.{noLetter, fieldsOf}
 use Rattle.lines.specs.Lines.{decimal, signedDecimal, numberBytes, fieldsBytes, lineOf, line, writeLine, lineBytes}
 use Rattle.replies.specs.declared.Reply.{Reply}
-use Rattle.replies.specs.declared.Reply.the-variants.{Opened, Residual, Missing, Forecast, Variance, Saved, Rejected, Ended, Silent}
+use Rattle.replies.specs.declared.Reply.the-variants.{Opened, Residual, Missing, Forecast, Variance, Saved, Rejected, Ended, Silent, RelativeVariance}
 use Rattle.lines.specs.declared.Line.the-variants as line-of
 use Rattle.replies.specs.declared.Fields.{Fields}
 use Rattle.lines.proofs.DigitLaws.{length-decimal, count-most, length-hexadecimal}
@@ -67,6 +67,7 @@ savedCount (Saved n) = n
 savedCount (Rejected code offset) = 0
 savedCount (Ended count) = 0
 savedCount Silent = 0
+savedCount (RelativeVariance h bits) = 0
 
 -- a line of numbers has no more than 65 bytes, as many as that of a save of 31
 pub line-most : (r : Reply) (saved : List ℕ) (most : ℕ) → 31 ≤ most → savedCount r ≤ most → length (lineOf r saved) ≤ 3 + 2 * most
@@ -82,6 +83,7 @@ line-most (Rejected code offset) saved most b h =
     omega (arith, length-fields saved (fieldsOf (Rejected code offset)) refl, unsigned-most code, unsigned-most offset)
 line-most (Ended count) saved most b h = omega (arith, length-fields saved (fieldsOf (Ended count)) refl, unsigned-most count)
 line-most Silent saved most b h = omega (arith, silent saved)
+line-most (RelativeVariance j bits) saved most b h = omega (arith, length-fields saved (fieldsOf (RelativeVariance j bits)) refl, unsigned-most j, unsigned-most bits)
 
 -- a line that is written has room
 pub written-room : (r : Reply) (saved : List ℕ) (room n : ℕ) → writeLine r saved room ≡ line-of.Bytes n → n ≤ room

@@ -1,4 +1,4 @@
--- Document 01, "Grains and states": the model byte, and the season lengths and parameters that a model allows; document 02, W-201: the usual region, and W-211: the rounding rule.
+-- Document 01, "Grains and states": the model byte, and the season lengths and parameters that a model allows; document 02, W-201: the usual region, W-211: the rounding rule, and W-205: the kind of the errors.
 use Prim.Native.Nat.{ℕ, _+_, _*_, _-_, _/_, _%_}
 use mathlib.Core.Bool.{Bool, cond, not, _&&_, _||_}
 use lib.Dec.{eqb, leb}
@@ -24,6 +24,17 @@ roundingOf model = model / 64 % 2
 abbrev pub tiesToEven : ℕ → Bool
 tiesToEven model = not (eqb (roundingOf model) 0)
 
+-- bit 3 is the kind of the errors: 0 for additive ones, 1 for multiplicative ones, which scatter in proportion
+abbrev pub errorsOf : ℕ → ℕ
+errorsOf model = model / 8 % 2
+
+abbrev pub hasRelativeErrors : ℕ → Bool
+hasRelativeErrors model = not (eqb (errorsOf model) 0)
+
+-- whether the errors are of a kind: multiplicative (relative) or additive
+abbrev pub errorsAre : Bool → ℕ → Bool
+errorsAre relative model = cond relative (hasRelativeErrors model) (not (hasRelativeErrors model))
+
 -- the byte with bit 6 clear, and with it set
 abbrev pub toUp : ℕ → ℕ
 toUp model = model - roundingOf model * 64
@@ -31,19 +42,19 @@ toUp model = model - roundingOf model * 64
 abbrev pub toEven : ℕ → ℕ
 toEven model = toUp model + 64
 
+-- the byte with bit 3 clear
+abbrev pub toAdditive : ℕ → ℕ
+toAdditive model = model - errorsOf model * 8
+
 -- the byte put together from its parts
 abbrev pub modelByte : ℕ → ℕ
-modelByte model = roundingOf model * 64 + seasonOf model * 4 + trendOf model
+modelByte model = roundingOf model * 64 + errorsOf model * 8 + seasonOf model * 4 + trendOf model
 
--- valid bytes are 0, 1, 2, 4, 5, 6, with bit 6 set or clear
+-- valid bytes are 0, 1, 2, 4, 5, 6, with bits 3 and 6 set or clear
 abbrev pub validModel : ℕ → Bool
 validModel model =
-    eqb (toUp model) 0
-    || eqb (toUp model) 1
-    || eqb (toUp model) 2
-    || eqb (toUp model) 4
-    || eqb (toUp model) 5
-    || eqb (toUp model) 6
+    let form = toAdditive (toUp model) in
+    eqb form 0 || eqb form 1 || eqb form 2 || eqb form 4 || eqb form 5 || eqb form 6
 
 -- the season length m: 0 without season, otherwise 2 to 48
 abbrev pub periodOk : ℕ → ℕ → Bool

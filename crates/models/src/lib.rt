@@ -2,7 +2,7 @@
 // document 01, "Grains and states".
 ghost use mathlib.Core.Path.{_≡_};
 ghost use mathlib.Core.Bool.{cond};
-ghost use Rattle.models.specs.Models.{trendOf, seasonOf, hasTrend, hasSeason, roundingOf, tiesToEven, toEven, modelByte, validModel, periodOk, gainOk, dampingOk, parametersOk, usualGains};
+ghost use Rattle.models.specs.Models.{trendOf, seasonOf, hasTrend, hasSeason, roundingOf, tiesToEven, toEven, errorsOf, hasRelativeErrors, errorsAre, modelByte, validModel, periodOk, gainOk, dampingOk, parametersOk, usualGains};
 
 // 1 in the 65,536ths that the parameters are counted in: the greatest of each.
 pub const ONE: u32 = 65536;
@@ -54,18 +54,31 @@ pub fn to_even(model: u8) -> u8
     model | 0x40
 }
 
-// No bit but those of the trend, the season and the rounding rule, and no trend 3.
+pub fn errors_of(model: u8) -> u8
+    ensures { λ r. ⌜ r ≡ errorsOf model ⌝ }
+{
+    (model >> 3) & 1
+}
+
+// The kind of the errors: whether they are multiplicative, else additive.
+pub fn has_relative_errors(model: u8) -> bool
+    ensures { λ r. ⌜ r ≡ hasRelativeErrors model ⌝ }
+{
+    errors_of(model) != 0
+}
+
+// No bit but those of the trend, the season, the errors and the rounding rule, and no trend 3.
 pub fn model_ok(model: u8) -> bool
     ensures { λ r. ⌜ r ≡ validModel model ⌝ }
 {
-    (model & 0xb8 == 0) & (trend_of(model) != 3)
+    (model & 0xb0 == 0) & (trend_of(model) != 3)
 }
 
 // The byte put together from its parts, as saving writes it.
 pub fn model_byte(model: u8) -> u8
     ensures { λ r. ⌜ r ≡ modelByte model ⌝ }
 {
-    trend_of(model) | (season_of(model) << 2) | (rounding_of(model) << 6)
+    trend_of(model) | (season_of(model) << 2) | (errors_of(model) << 3) | (rounding_of(model) << 6)
 }
 
 // One of two, so that the checks have no branch of their own.
@@ -73,6 +86,14 @@ pub fn pick(b: bool, x: bool, y: bool) -> bool
     ensures { λ r. ⌜ r ≡ cond b x y ⌝ }
 {
     if b { x } else { y }
+}
+
+// Whether the errors are of a kind: multiplicative or additive.
+pub fn errors_are(relative: bool, model: u8) -> bool
+    ensures { λ r. ⌜ r ≡ errorsAre relative model ⌝ }
+{
+    let found = has_relative_errors(model);
+    pick(relative, found, !found)
 }
 
 pub fn period_ok(model: u8, m: u8) -> bool

@@ -25,6 +25,10 @@ letterF = 70
 abbrev pub letterV : ℕ
 letterV = 86
 
+-- document 02, W-205
+abbrev pub letterW : ℕ
+letterW = 87
+
 abbrev pub letterS : ℕ
 letterS = 83
 
@@ -49,3 +53,4 @@ fieldsOf (reply-of.Saved n) = fields letterS (Hexadecimal n) Nothing Nothing
 fieldsOf (reply-of.Rejected code offset) = fields letterX (Unsigned code) (Unsigned offset) Nothing
 fieldsOf (reply-of.Ended count) = fields letterN (Unsigned count) Nothing Nothing
 fieldsOf reply-of.Silent = fields noLetter Nothing Nothing Nothing
+fieldsOf (reply-of.RelativeVariance h bits) = fields letterW (Unsigned h) (Unsigned bits) Nothing

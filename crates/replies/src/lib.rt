@@ -22,6 +22,8 @@ pub enum Reply {
     Ended(u64),
     // No line: the answer to an accepted command that prints none (document 02, W-211: 14).
     Silent,
+    // W: the variance of multiplicative errors, by the 64 bits of its double (document 02, W-205)
+    RelativeVariance { horizon: u32, bits: u64 },
 }
 
 // In the place of the letter of an answer that has no line.
@@ -85,5 +87,10 @@ pub fn fields_of(r: Reply) -> Fields
         Reply::Rejected { code, offset } => two(b'X', code as u64, Number::Unsigned(offset as u64)),
         Reply::Ended(count) => one(b'N', Number::Unsigned(count)),
         Reply::Silent => one(NO_LETTER, Number::Nothing),
+        Reply::RelativeVariance { horizon, bits } => two(
+            b'W',
+            horizon as u64,
+            Number::Unsigned(bits),
+        ),
     }
 }

@@ -4,7 +4,7 @@ use mathlib.Core.Path.{_≡_, refl, ap, _∙_}
 use native.Mathlib.Decide.{ℕ-discrete}
 use native.Mathlib.Omega.{arith}
 use borrow.Author.Tests.{ne-eqb}
-use Rattle.models.specs.Models.{trendOf, seasonOf, roundingOf, toUp, toEven}
+use Rattle.models.specs.Models.{trendOf, seasonOf, roundingOf, errorsOf, toUp, toEven}
 use Rattle.state.specs.States.{parametersCode, check}
 use Rattle.state.specs.Switching.{switched, switchToEven, SwitchLaws}
 use Rattle.state.specs.declared.State.{State}
@@ -17,6 +17,9 @@ even-trend m = omega arith
 
 even-season : (m : ℕ) → seasonOf (toEven m) ≡ seasonOf m
 even-season m = omega arith
+
+even-errors : (m : ℕ) → errorsOf (toEven m) ≡ errorsOf m
+even-errors m = omega arith
 
 even-rounding : (m : ℕ) → roundingOf (toEven m) ≡ 1
 even-rounding m = omega arith
@@ -53,6 +56,7 @@ switch-law s =
       rule = rw (even-rounding (s .model));
       trend = rw (even-trend (s .model));
       season = rw (even-season (s .model));
+      errors = rw (even-errors (s .model));
       checks = checks-kept s;
       again = again s;
     }

@@ -16,7 +16,8 @@ input-too-long = 1
 abbrev pub unknown-command : ℕ
 unknown-command = 2
 
--- The command is out of place: inside a group it isn't the one due; outside one it is a command that only a group holds, or no state is open and it is neither 10 nor 18.
+-- The command is out of place: inside a group it isn't the one due; outside one it is a command that only a group holds, or no state is open and it is neither 10 nor 18; or
+-- (document 02, W-205) it is 31 or another call of Class 1 and the model has multiplicative errors, or 32 and it has additive ones.
 abbrev pub out-of-place : ℕ
 out-of-place = 3
 
@@ -75,6 +76,14 @@ unusual-gains = 16
 -- The real readings exceed the count, or the sum of their squares exceeds readings × 2^52. (Checked right after 10.)
 abbrev pub bad-score : ℕ
 bad-score = 17
+
+-- The bits of σ² as an unsigned number exceed those of 1.0. (Checked right after 11.)
+abbrev pub bad-sigma2 : ℕ
+bad-sigma2 = 18
+
+-- A θ, an S or the variance is not finite. (Checked last.)
+abbrev pub not-finite : ℕ
+not-finite = 19
 
 -- a check: 0 where the test holds, else its rejection
 abbrev pub unless : Bool → ℕ → ℕ

@@ -2,7 +2,7 @@
 use Prim.Native.Nat.{ℕ}
 use mathlib.Core.Path.{_≡_}
 use mathlib.Core.Bool.{true}
-use Rattle.models.specs.Models.{hasTrend, hasSeason, tiesToEven, toEven}
+use Rattle.models.specs.Models.{hasTrend, hasSeason, hasRelativeErrors, tiesToEven, toEven}
 use Rattle.state.specs.Rejections.{accepting, outcome}
 use Rattle.state.specs.States.{check}
 use Rattle.state.specs.declared.State.{State}
@@ -33,10 +33,11 @@ switchToEven s =
     record { state = accepting (check s) (switched s) (λ (n : ℕ). s); outcome = outcome (check s) }
 
 pub record SwitchLaw (s : State) : Type 0 where
-  -- ties go to even from then on, in a model with the same trend and season
+  -- ties go to even from then on, in a model with the same trend, season and kind of errors
   pub rule : tiesToEven (switched s .model) ≡ true
   pub trend : hasTrend (switched s .model) ≡ hasTrend (s .model)
   pub season : hasSeason (switched s .model) ≡ hasSeason (s .model)
+  pub errors : hasRelativeErrors (switched s .model) ≡ hasRelativeErrors (s .model)
   -- what rejects it is what rejected it before
   pub checks : check (switched s) ≡ check s
   -- a second switch changes nothing

@@ -44,6 +44,10 @@ pub const UNUSUAL_GAINS: u8 = 16;
 
 pub const BAD_SCORE: u8 = 17;
 
+pub const BAD_SIGMA2: u8 = 18;
+
+pub const NOT_FINITE: u8 = 19;
+
 // 2^40: level, trend and season values are at most that, and at least its negative.
 pub const MAX_VALUE: i64 = 0x100_0000_0000;
 

@@ -16,9 +16,8 @@ use Rattle.state.specs.Valid.{Valid}
 use Rattle.state.specs.declared.State.{State}
 use Rattle.state.proofs.Passing.{valid}
 use Rattle.state.proofs.Tests.{then-zero}
-use Rattle.forecasts.specs.Forecasts.{forecastCode}
-use Rattle.forecasts.proofs.ForecastLaws.{forecast-ready}
-use Rattle.weights.specs.Weights.{trendTerm, seasonTerm, coefficient, squares, weightOf, weight}
+use Rattle.weights.specs.Weights.{trendTerm, seasonTerm, coefficient, squares, weightOf, classOneCode, weight}
+use Rattle.weights.proofs.Rejecting.{errors-ready}
 use Rattle.weights.specs.Groups.{groupCount, groupSum, firstGroups, groups, weightGroupsCode, weightGroupCells}
 use Rattle.weights.specs.Promises.{Needed, GroupLaws}
 
@@ -168,8 +167,8 @@ group-laws =
       weight-is = weight-is;
       answers =
           λ s h cells z.
-          let f = then-zero (forecastCode s h) _ z in
-          let least = count-least s (valid s (forecast-ready 512 s h (f .0) .valid)) in
+          let f = then-zero (classOneCode s h) _ z in
+          let least = count-least s (valid s (errors-ready false s h (f .0) .valid)) in
           rw (f .0, f .1, take-at (groups s h) (drop (groupCount s) cells) (groupCount s) (groups-length s (h - 1) (groupCount s)), weight-is s h least);
       needed = needed;
     }

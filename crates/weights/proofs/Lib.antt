@@ -1,2 +1,4 @@
+pub mod CoefficientLaws
 pub mod GroupLaws
+pub mod Rejecting
 pub mod Terms

@@ -5,10 +5,12 @@ use mathlib.Core.Bool.{Bool, true, false, cond, _&&_}
 use native.Mathlib.Omega.{arith}
 use native.Mathlib.Nat.{mul-le-mul, mod-lt, mod-zero, mod-self, mod-eq-of-lt, suc-mod, zero-mod, mod-le}
 use lib.Dec.{eqb, ltb}
+use lib.IntN.{pos}
 use borrow.Author.Tests.{eqb-true, eqb-false, le-ltb}
 use Rattle.state.specs.Fixed.{shareNat}
 use Rattle.models.specs.Models.{trendOf, hasSeason, tiesToEven}
 use Rattle.state.specs.Valid.{Valid}
+use Rattle.state.proofs.Rounding.{added-le, shareNat-is}
 use Rattle.state.specs.declared.State.{State}
 use Rattle.weights.specs.Weights.{dampingSum, trendTerm, seasonTerm, coefficient, squares, weightOf}
 use Rattle.weights.specs.Groups.{groupCount}
@@ -17,6 +19,10 @@ use Rattle.weights.specs.Facts.{At}
 -- a product of two bounded numbers
 pub product-le : (m n : ℕ) {a b : ℕ} → a ≤ m → b ≤ n → a * b ≤ m * n
 product-le m n h k = mul-le-mul h k
+
+-- a parameter is at most 1
+pub shrinks : (even : Bool) (a x : ℕ) → a ≤ 65536 → shareNat even a x ≤ x
+shrinks even a x h = omega (arith, shareNat-is even a x, added-le even (pos (a * x)), product-le 65536 x {b = x} h (omega arith))
 
 -- the next P, where the trend is damped; nothing else uses it
 damping-next : (even : Bool) (t F n : ℕ) {j p q : ℕ} → suc n ≡ j → p ≡ cond (ltb t 2) 0 (dampingSum even F n) → q ≡ cond (ltb t 2) 0 (shareNat even F (p + 65536)) → q ≡ cond (ltb t 2) 0 (dampingSum even F j)

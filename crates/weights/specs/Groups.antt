@@ -8,8 +8,7 @@ use Rattle.models.specs.Models.{hasSeason}
 use Rattle.state.specs.Rejections.{unless, _then_, accepting, outcome, short-buffer}
 use Rattle.state.specs.declared.State.{State}
 use Rattle.state.specs.declared.Outcome.{Outcome}
-use Rattle.forecasts.specs.Forecasts.{forecastCode}
-use Rattle.weights.specs.Weights.{coefficient}
+use Rattle.weights.specs.Weights.{coefficient, classOneCode}
 
 -- m groups; without season there is one
 abbrev pub groupCount : State → ℕ
@@ -29,9 +28,9 @@ firstGroups s n (suc k) = firstGroups s n k ++ (groupSum s k n ∷ [])
 abbrev pub groups : State → ℕ → List ℕ
 groups s h = firstGroups s (h - 1) (groupCount s)
 
--- rejected as command 31 is, by the state's checks, then 11; then 12
+-- rejected as command 31 is, then by 12
 unfoldable pub weightGroupsCode : State → ℕ → ℕ → ℕ
-weightGroupsCode s h room = forecastCode s h then unless (leb (groupCount s) room) short-buffer
+weightGroupsCode s h room = classOneCode s h then unless (leb (groupCount s) room) short-buffer
 
 unfoldable pub weightGroups : State → ℕ → ℕ → Outcome
 weightGroups s h room = outcome (weightGroupsCode s h room)

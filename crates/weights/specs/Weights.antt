@@ -1,13 +1,14 @@
 -- Document 01, "Forecast and variance": the weights (document 000, Class 1) and the variance.
 use Prim.Native.Nat.{ℕ, zero, suc, _+_, _-_, _*_, _/_, _%_}
 use mathlib.Core.Path.{_≡_}
-use mathlib.Core.Bool.{Bool, cond, _&&_}
+use mathlib.Core.Bool.{Bool, false, cond, _&&_}
 use lib.Dec.{eqb}
 use Rattle.state.specs.Fixed.{shareNat}
-use Rattle.state.specs.Rejections.{accepting}
-use Rattle.models.specs.Models.{trendOf, hasSeason, tiesToEven}
+use Rattle.state.specs.Rejections.{unless, _then_, accepting, out-of-place, bad-horizon}
+use Rattle.state.specs.States.{check}
+use Rattle.models.specs.Models.{trendOf, hasSeason, tiesToEven, errorsAre}
 use Rattle.state.specs.declared.State.{State}
-use Rattle.forecasts.specs.Forecasts.{forecastCode}
+use Rattle.forecasts.specs.Forecasts.{maxHorizon, horizonOk}
 use Rattle.weights.specs.declared.Weight.{Weight}
 use Rattle.weights.specs.declared.Weight.the-variants as weight-of
 use Rattle.weights.specs.declared.Variance.{Variance}
@@ -74,10 +75,21 @@ pub record AnswerCases (n v : ℕ) : Type 0 where
   pub variance-code : varianceCode (varianceAnswer n v) ≡ n
   pub variance-value : n ≡ 0 → varianceValue (varianceAnswer n v) ≡ v
 
--- the calls, rejected as a forecast is: by the state's checks, then 11
+-- what rejects a call for one kind of errors, or 0: the state's checks, 3 where the model has the other kind (document 02, W-205), then 11
+unfoldable pub errorsCode : Bool → State → ℕ → ℕ
+errorsCode relative s h =
+    check s
+    then unless (errorsAre relative (s .model)) out-of-place
+    then unless (horizonOk maxHorizon h) bad-horizon
+
+-- Class 1 is for additive errors
+abbrev pub classOneCode : State → ℕ → ℕ
+classOneCode = errorsCode false
+
+-- the calls
 unfoldable pub weight : State → ℕ → Weight
-weight s h = weightAnswer (forecastCode s h) (weightOf s h)
+weight s h = weightAnswer (classOneCode s h) (weightOf s h)
 
 -- the variance is the weight times σ², exact
 unfoldable pub variance : State → ℕ → ℕ → Variance
-variance s h sigma2 = varianceAnswer (forecastCode s h) (weightOf s h * sigma2)
+variance s h sigma2 = varianceAnswer (classOneCode s h) (weightOf s h * sigma2)

@@ -1,9 +1,9 @@
 // The squares of C by j modulo m: document 02, W-210.
+use super::errors_code;
 use super::sums::coefficient;
 use super::sums::group_count;
 use super::sums::next_damping;
 use super::sums::next_remainder;
-use forecasts::forecast_code;
 use models::ties_to_even;
 use models::trend_of;
 use state::Outcome;
@@ -56,7 +56,7 @@ pub fn weight_groups(s: State, h: u32, cells: &mut [u64]) -> Outcome
     ensures buffer { λ _. ⌜ now (cells .exit) ≡ weightGroupCells s h (now (cells .entry)) ⌝ }
 {
     let room = unless((group_count(s) as usize) <= cells.len(), SHORT_BUFFER);
-    let n = first(forecast_code(s, h), room);
+    let n = first(errors_code(false, s, h), room);
     if n != 0 {
         return Outcome::Rejected(n);
     }

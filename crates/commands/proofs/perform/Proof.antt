@@ -10,7 +10,7 @@ use Rattle.commands.proofs.perform.Statement.{statement}
 use Rattle.commands.proofs.perform.Tie as tie
 
 open-snapshot-requires : tie.Need-open-snapshot-requires
-open-snapshot-requires c κs = inside _ _ _ (ap (λ (d : Decoded). d .command) (sym (c .before .before .decode .ensures)) ∙ c .enum-told2 .given .1)
+open-snapshot-requires c κs = inside _ _ _ _ (ap (λ (d : Decoded). d .command) (sym (c .before .before .decode .ensures)) ∙ c .enum-told2 .given .1)
 
 returns : tie.Need-returns
 returns c = performed _ _ _ _ (c .before .before .before .decode .ensures) (c .before .enum-told .given .1) _ (c .finish .ensures)
@@ -44,6 +44,9 @@ returns-8 c = performed _ _ _ _ (c .before .before .before .before .decode .ensu
 returns-9 : tie.Need-returns-9
 returns-9 c = performed _ _ _ _ (c .before .before .before .decode .ensures) (c .before .enum-told5 .given .1) _ (c .switch-state .ensures)
 
+returns-10 : tie.Need-returns-10
+returns-10 c = performed _ _ _ _ (c .before .before .before .before .decode .ensures) (c .before .before .command5 .given .1) _ (c .give-relative-variance .ensures)
+
 pub perform-spec : {M : Type 1} → statement M
 perform-spec =
     tie.close
@@ -67,6 +70,8 @@ perform-spec =
     (λ c κs. search needs)
     (λ c. search needs)
     (λ c κs. search needs)
+    (λ c. search needs)
+    (λ c κs. search needs)
     returns
     returns-2
     returns-3
@@ -76,4 +81,5 @@ perform-spec =
     (λ c. search needs)
     returns-7
     returns-8
-    returns-9)
+    returns-9
+    returns-10)

@@ -39,6 +39,9 @@ enum-told2 c = search needs
 returns-9 : tie.Need-returns-9
 returns-9 c = c .one5 .ensures ∙ sym (ap fieldsOf (c .before .enum-told2 .given .1))
 
+returns-10 : tie.Need-returns-10
+returns-10 c = c .two4 .ensures ∙ sym (ap fieldsOf (c .before .before .r8 .given .1))
+
 pub fields-of-spec : {M : Type 1} → statement M
 fields-of-spec =
     tie.close
@@ -66,6 +69,9 @@ fields-of-spec =
     (λ c κs. search needs)
     enum-told2
     (λ c κs. search needs)
+    (λ c. search needs)
+    (λ c. search needs)
+    (λ c κs. search needs)
     returns
     returns-2
     returns-3
@@ -74,4 +80,5 @@ fields-of-spec =
     returns-6
     returns-7
     returns-8
-    returns-9)
+    returns-9
+    returns-10)

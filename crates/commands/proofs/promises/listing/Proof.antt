@@ -6,11 +6,11 @@ use Rattle.state.specs.Scores.{sumOf, sumOk}
 use Rattle.state.specs.States.{check, parametersCode, noState}
 use Rattle.ets.specs.Steps.{dampedTrend, seasonDue, residual, newLevel, newTrend, newSeason, newSeasonal, squareOf, scoreAfter, nextIndex, missingCode, stepCode, step}
 use Rattle.forecasts.specs.Forecasts.{trendAt, trendLine, seasonAt, forecastOf, forecastCodeTo, forecastTo}
-use Rattle.weights.specs.Weights.{dampingSum, trendTerm, seasonTerm, coefficient, squares, weightOf, weight, variance}
+use Rattle.weights.specs.Weights.{dampingSum, trendTerm, seasonTerm, coefficient, squares, weightOf, errorsCode, weight, variance}
 use Rattle.layout.specs.Bytes.{fromBytes}
 use Rattle.layout.specs.CommandTable.{commandSize, isCommand, onlyInSnapshot, opens}
 use Rattle.snapshot.specs.Snapshots.{dueCode, modelCode, levelCode, scoreCode, positionCode, scanSeasons, scan, cellsAt, decoded, read}
-use Rattle.decoding.specs.Decoding.{commandCode, operands, decode}
+use Rattle.decoding.specs.Decoding.{inPlace, commandCode, operands, decode}
 use Rattle.lines.specs.Lines.{digits, digitCount, decimal, signedDecimal, fieldsBytes, lineOf}
 use Rattle.commands.specs.Commands.{start, finish, openSnapshot, takeReading, giveForecast, giveVariance, perform}
 use Rattle.commands.specs.Stream.{admit, answersIn, answersFrom, answers, lineAfter, textOf, text}
@@ -18,7 +18,7 @@ use Rattle.commands.proofs.promises.listing.Statement.{statement}
 use Rattle.commands.proofs.promises.listing.Tie as tie
 
 returns : tie.Need-returns
-unfolding R share allBelow sumOf sumOk check parametersCode noState dampedTrend seasonDue residual newLevel newTrend newSeason newSeasonal squareOf scoreAfter nextIndex missingCode stepCode step trendAt trendLine seasonAt forecastOf forecastCodeTo forecastTo dampingSum trendTerm seasonTerm coefficient squares weightOf weight variance fromBytes commandSize isCommand onlyInSnapshot opens dueCode modelCode levelCode scoreCode positionCode scanSeasons scan cellsAt decoded read digits digitCount decimal signedDecimal fieldsBytes lineOf commandCode operands decode start finish openSnapshot takeReading giveForecast giveVariance perform admit answersIn answersFrom answers lineAfter textOf text
+unfolding R share allBelow sumOf sumOk check parametersCode noState dampedTrend seasonDue residual newLevel newTrend newSeason newSeasonal squareOf scoreAfter nextIndex missingCode stepCode step trendAt trendLine seasonAt forecastOf forecastCodeTo forecastTo dampingSum trendTerm seasonTerm coefficient squares weightOf errorsCode weight variance fromBytes commandSize isCommand onlyInSnapshot opens dueCode modelCode levelCode scoreCode positionCode scanSeasons scan cellsAt decoded read digits digitCount decimal signedDecimal fieldsBytes lineOf inPlace commandCode operands decode start finish openSnapshot takeReading giveForecast giveVariance perform admit answersIn answersFrom answers lineAfter textOf text
 returns c = refl
 
 pub listing-spec : {M : Type 1} → statement M

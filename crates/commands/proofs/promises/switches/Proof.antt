@@ -1,4 +1,4 @@
-use Rattle.commands.proofs.SwitchLaws.{switches}
+use Rattle.commands.proofs.ByteLaws.{switches}
 use Rattle.commands.proofs.promises.switches.Statement.{statement}
 use Rattle.commands.proofs.promises.switches.Tie as tie
 

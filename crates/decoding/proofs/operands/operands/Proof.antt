@@ -50,13 +50,28 @@ returns-5 c =
     let k = c .read-u32 .ensures in
     rw (c .before .before .if5 .taken) (rw (← h, ← k))
 
+read-u16-requires-3 : tie.Need-read-u16-requires-3
+unfolding commandSize
+read-u16-requires-3 c κs = omega (arith, rw (c .if6 .taken) at (c .before .before .before .before .before .before .before .before .before .pre .1))
+
+read-u64-requires : tie.Need-read-u64-requires
+unfolding commandSize
+read-u64-requires c κs = omega (arith, rw (c .before .if6 .taken) at (c .before .before .before .before .before .before .before .before .before .before .pre .1))
+
 returns-6 : tie.Need-returns-6
 unfolding operands opens
-returns-6 c = rw (c .if6 .taken)
+returns-6 c =
+    let h = c .before .read-u163 .ensures .0 in
+    let k = c .read-u64 .ensures in
+    rw (c .before .before .if6 .taken) (rw (← h, ← k))
 
 returns-7 : tie.Need-returns-7
+unfolding operands opens
+returns-7 c = rw (c .if7 .taken)
+
+returns-8 : tie.Need-returns-8
 unfolding operands
-returns-7 c = rw (← (c .before .before .before .before .before .before .opens .ensures), c .before .before .before .before .before .if1 .left, ne-eqb _ _ (c .before .before .before .before .if2 .left), ne-eqb _ _ (c .before .before .before .if3 .left), ne-eqb _ _ (c .before .before .if4 .left), ne-eqb _ _ (c .before .if5 .left), ne-eqb _ _ (c .if6 .left))
+returns-8 c = rw (← (c .before .before .before .before .before .before .before .opens .ensures), c .before .before .before .before .before .before .if1 .left, ne-eqb _ _ (c .before .before .before .before .before .if2 .left), ne-eqb _ _ (c .before .before .before .before .if3 .left), ne-eqb _ _ (c .before .before .before .if4 .left), ne-eqb _ _ (c .before .before .if5 .left), ne-eqb _ _ (c .before .if6 .left), ne-eqb _ _ (c .if7 .left))
 
 pub operands-spec : {M : Type 1} → statement M
 operands-spec =
@@ -77,5 +92,10 @@ operands-spec =
     (λ c. search needs)
     read-u32-requires
     returns-5
+    (λ c. search needs)
+    read-u16-requires-3
+    (λ c. search needs)
+    read-u64-requires
     returns-6
-    returns-7)
+    returns-7
+    returns-8)

@@ -1,18 +1,19 @@
+use mathlib.Core.Bool.{false}
 use mathlib.Core.Path.{_≡_, refl, sym, _∙_}
 use lib.ListN.{length}
 use borrow.Author.Needs.{needs}
 use borrow.Author.Tests.{ne-eqb, leb-true}
 use Rattle.state.proofs.Passing.{valid}
 use Rattle.state.proofs.Tests.{then-zero, unless-zero}
-use Rattle.forecasts.proofs.ForecastLaws.{forecast-ready}
 use Rattle.weights.specs.Groups.{weightGroupsCode, weightGroups, weightGroupCells}
+use Rattle.weights.proofs.Rejecting.{errors-ready}
 use Rattle.weights.proofs.groups.weight_groups.Statement.{statement}
 use Rattle.weights.proofs.groups.weight_groups.Tie as tie
 
 code : (c : tie.After-first) → let s = c .before .before .before .before .before .args in c .first .result ≡ weightGroupsCode (s .s) (s .h) (length (s .cells .now))
 unfolding weightGroupsCode
 code c =
-    rw (c .first .ensures, c .before .forecast-code .ensures, c .before .before .unless .ensures, c .before .before .before .group-count .ensures)
+    rw (c .first .ensures, c .before .errors-code .ensures, c .before .before .unless .ensures, c .before .before .before .group-count .ensures)
 
 returns : tie.Need-returns
 unfolding weightGroups weightGroupCells
@@ -24,7 +25,7 @@ add-squares-requires c κs =
     let i = c .before in
     let s = i .before .before .before .before .before .before in
     let z = then-zero _ _ (sym (code (i .before)) ∙ i .if1 .left) in
-    let r = forecast-ready 512 (s .args .s) (s .args .h) (z .0) in
+    let r = errors-ready false (s .args .s) (s .args .h) (z .0) in
     (valid _ (r .valid), r .least, r .most, leb-true _ _ (unless-zero _ 11 (z .1)))
 
 returns-2 : tie.Need-returns-2

@@ -1,20 +1,13 @@
-use Prim.Native.Nat.{ℕ, _*_, _≤_}
+use Prim.Native.Nat.{_*_, _≤_}
 use mathlib.Core.Path.{_≡_}
-use mathlib.Core.Bool.{Bool}
 use native.Mathlib.Omega.{arith}
-use lib.IntN.{pos}
 use Rattle.state.specs.Fixed.{R, share, shareNat}
-use Rattle.state.proofs.Rounding.{added-le, shareNat-is}
-use Rattle.weights.proofs.Terms.{product-le}
+use Rattle.weights.proofs.Terms.{product-le, shrinks}
 use Rattle.weights.proofs.sums.share.Statement.{statement}
 use Rattle.weights.proofs.sums.share.Tie as tie
 
 small : (c : tie.Start) → c .args .a * c .args .x ≤ 65536 * c .args .x
 small c = product-le 65536 (c .args .x) (c .pre .0) (omega arith)
-
--- a parameter is at most 1
-shrinks : (even : Bool) (a x : ℕ) → a * x ≤ 65536 * x → shareNat even a x ≤ x
-shrinks even a x h = omega (arith, shareNat-is even a x, added-le even (pos (a * x)))
 
 mul-v : tie.Need-mul-v
 mul-v c = omega (arith, small c)
@@ -30,14 +23,14 @@ unfolding share R
 returns c =
     let s = c .before .before in
     let e : c .round .result ≡ shareNat (s .args .even) (s .args .a) (s .args .x) = rw (c .before .if1 .taken) (c .round .ensures) in
-    (e, omega (arith, shrinks (s .args .even) (s .args .a) (s .args .x) (small s)))
+    (e, omega (arith, shrinks (s .args .even) (s .args .a) (s .args .x) (s .pre .0)))
 
 returns-2 : tie.Need-returns-2
 unfolding share R
 returns-2 c =
     let s = c .before .before in
     let e : c .round2 .result ≡ shareNat (s .args .even) (s .args .a) (s .args .x) = rw (c .before .if1 .left) (c .round2 .ensures) in
-    (e, omega (arith, shrinks (s .args .even) (s .args .a) (s .args .x) (small s)))
+    (e, omega (arith, shrinks (s .args .even) (s .args .a) (s .args .x) (s .pre .0)))
 
 pub share-spec : {M : Type 1} → statement M
 share-spec = tie.close (tie.spec mul-v round-requires round-requires-2 returns returns-2)

@@ -1,0 +1,5 @@
+pub mod ErrorKinds
+pub mod Facts
+pub mod Pins
+pub mod Promises
+pub mod Relative
