@@ -8,9 +8,11 @@ use lib.Ieee.{Float}
 use Rattle.models.specs.Models.{toAdditive, hasRelativeErrors}
 use Rattle.state.specs.Rejections.{out-of-place}
 use Rattle.state.specs.States.{check}
+use Rattle.state.specs.Switching.{switchToEven}
 use Rattle.state.specs.declared.State.{State}
 use Rattle.state.specs.declared.Outcome.the-variants as outcome-of
 use Rattle.ets.specs.Steps.{step, missing}
+use Rattle.ets.specs.Batches.{batch, batchLevels}
 use Rattle.forecasts.specs.Forecasts.{forecastTo, forecastsTo, forecastCellsTo}
 use Rattle.weights.specs.Weights.{weight, variance}
 use Rattle.weights.specs.Groups.{weightGroups, weightGroupCells}
@@ -38,11 +40,16 @@ withRelativeErrors s =
       score = s .score;
     }
 
--- the checks, the steps and the point forecasts, rejected ones included, are those of the state as it was
+-- the checks, the steps, one by one and in a batch, the switch of the rounding rule and the point forecasts, rejected ones included, are those of the state as it was
 pub record SameNumbers (s : State) : Type 0 where
   pub checks : check (withRelativeErrors s) ≡ check s
   pub reading : (y : ℤ) → step (withRelativeErrors s) y ≡ record { state = withRelativeErrors (step s y .state); residual = step s y .residual }
   pub gap : missing (withRelativeErrors s) ≡ record { state = withRelativeErrors (missing s .state); outcome = missing s .outcome }
+  pub readings : (ys : List ℤ) (room : ℕ)
+      → batch (withRelativeErrors s) ys room
+      ≡ record { state = withRelativeErrors (batch s ys room .state); taken = batch s ys room .taken; outcome = batch s ys room .outcome }
+  pub levels : (ys cells : List ℤ) → batchLevels (withRelativeErrors s) ys cells ≡ batchLevels s ys cells
+  pub rule : switchToEven (withRelativeErrors s) ≡ record { state = withRelativeErrors (switchToEven s .state); outcome = switchToEven s .outcome }
   pub one : (limit h : ℕ) → forecastTo limit (withRelativeErrors s) h ≡ forecastTo limit s h
   pub all : (limit h room : ℕ) → forecastsTo limit (withRelativeErrors s) h room ≡ forecastsTo limit s h room
   pub cells : (limit h : ℕ) (cells : List ℤ) → forecastCellsTo limit (withRelativeErrors s) h cells ≡ forecastCellsTo limit s h cells

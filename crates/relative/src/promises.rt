@@ -18,7 +18,7 @@ pub fn nothing_lost()
     ensures { λ _. ⌜ NothingLost ⌝ }
 {}
 
-// Steps and point forecasts are the same whole numbers for both kinds of errors; each variance is for one of them.
+// Steps, batches and point forecasts are the same whole numbers for both kinds of errors; each variance is for one of them.
 pub fn kind_laws()
     ensures { λ _. ⌜ KindLaws ⌝ }
 {}
