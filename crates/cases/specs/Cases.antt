@@ -41,13 +41,12 @@ after s y = step s y .state
 abbrev pub listing : State
 listing = stateOf false 0 0 32768 0 0 0 (pos 0) (pos 0) [] 0 0 noScore
 
--- straight, A 32768, B 16384, l 0, b 65536
-abbrev pub straight : State
-straight = stateOf false 1 0 32768 16384 0 65536 (pos 0) (pos 65536) [] 0 0 noScore
-
--- T3's state with another model byte
+-- straight, A 32768, B 16384, l 0, b 65536; with another model byte for W-205
 abbrev pub straightAs : ℕ → State
 straightAs model = stateOf false model 0 32768 16384 0 65536 (pos 0) (pos 65536) [] 0 0 noScore
+
+abbrev pub straight : State
+straight = straightAs 1
 
 -- damped, F 32768, A and B 0, l 0, b 3
 abbrev pub damped : State

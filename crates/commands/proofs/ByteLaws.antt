@@ -1,14 +1,15 @@
 -- Commands 14, 31 and 32 in a stream: what their first byte decides, by the table.
 use Prim.Native.Nat.{ℕ, _+_, _-_, _≤_, _<_}
 use mathlib.Core.Path.{_≡_, refl}
-use mathlib.Core.Bool.{Bool, true, false, not, _&&_, _||_}
+use mathlib.Core.Bool.{true, false, not, _&&_, _||_}
 use mathlib.Core.List.{List, []}
 use native.Mathlib.Omega.{arith}
 use borrow.Author.Tests.{lt-leb, le-leb}
 use lib.ListN.{length, getD}
+use Rattle.integers.proofs.Tests.{and-false}
 use Rattle.models.specs.Models.{hasRelativeErrors}
 use Rattle.state.specs.Rejections.{out-of-place}
-use Rattle.state.specs.Switching.{switched, switchToEven}
+use Rattle.state.specs.Switching.{switched}
 use Rattle.state.proofs.Switches.{switch-accepted}
 use Rattle.layout.specs.CommandTable.{commandSize, isCommand, onlyInSnapshot, opens}
 use Rattle.decoding.specs.Decoding.{inPlace, commandCode, operands, decode}
@@ -39,10 +40,6 @@ switches =
     record { unopened = λ s x room h b e. closed s x room h b e; opened = λ s x room h b e p. open-state s x room h b e p; line = no-line }
 
 -- ---- 31 and 32 and the kind of the errors
-and-false : (a : Bool) → (a && false) ≡ false
-and-false true = refl
-and-false false = refl
-
 one-command : isCommand 0x31 ≡ true
 unfolding isCommand commandSize
 one-command = refl

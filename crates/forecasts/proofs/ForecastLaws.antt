@@ -13,10 +13,10 @@ use mir.Syntax.{w64}
 use mir.Val.{SFits, toZ, ofZ}
 use mir.ValLaws.{toZ-ofZ}
 use lib.ListN.{length, getD, set, drop, length-append}
-use lib.Seq.{drop-cons, set-at, append-snoc}
 use borrow.Author.Tests.{lt-ltb, le-ltb, le-leb, leb-true}
 use Rattle.integers.specs.Bounds.{Within}
 use Rattle.integers.proofs.Difference.{back}
+use Rattle.integers.proofs.Snoc.{snoc-more}
 use Rattle.integers.proofs.Bounds.{within-le, within-add, within-fits}
 use Rattle.state.specs.Fixed.{share}
 use Rattle.models.specs.Models.{hasSeason}
@@ -121,10 +121,7 @@ list-length s (suc h) = rw (length-append, list-length s h) (omega arith)
 pub list-more : (s : State) (i : ℕ) (cells : List ℤ) → i < length cells →
     set (forecastList s i ++ drop i cells) i (forecastOf s (suc i)) ≡ forecastList s (suc i) ++ drop (suc i) cells
 unfolding forecastList
-list-more s i cells h =
-    rw (drop-cons cells i (pos 0))
-    (set-at (forecastList s i) (getD cells i (pos 0)) (drop (suc i) cells) (forecastOf s (suc i)) i (list-length s i)
-    ∙ sym (append-snoc (forecastList s i) (forecastOf s (suc i)) (drop (suc i) cells)))
+list-more s i cells h = snoc-more (forecastList s) (λ (n : ℕ). forecastOf s (suc n)) (pos 0) (λ n. refl) (list-length s) i cells h
 
 -- ---- a turn of the loops: d is the trend and l the line of i steps from numbers within their bounds, and r is the share F of d
 pub record Turn (even : Bool) (l : ℤ) (F : ℕ) (b : ℤ) (i : ℕ) (line r : ℤ) : Type 0 where

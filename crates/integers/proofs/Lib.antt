@@ -1,3 +1,4 @@
 pub mod Difference
 pub mod Bounds
 pub mod Tests
+pub mod Snoc

@@ -2,18 +2,16 @@
 use Prim.Native.Nat.{ℕ, zero, suc, _+_, _-_, _≤_, _<_}
 use mathlib.Core.Path.{_≡_, refl, ap, _∙_}
 use mathlib.Core.Bool.{true}
-use mathlib.Core.Logic.{_⊎_, inl, inr}
-use mathlib.Core.List.{List, [], _∷_, _++_}
-use native.Mathlib.Nat.{eq-or-lt-of-le, le-of-suc-le-suc}
+use mathlib.Core.List.{List, _++_}
 use native.Mathlib.Omega.{arith}
 use borrow.Author.Tests.{le-leb, leb-true}
 use lib.Dec.{leb}
 use lib.IntN.{ℤ, pos, negsuc, natAbs}
 use lib.ListN.{length, getD, drop, List·getD-append}
-use lib.Seq.{getD-at}
 use lib.Ieee.{Float, nan}
 use Rattle.integers.specs.Bounds.{Within}
 use Rattle.integers.proofs.Bounds.{within-parts, within-add}
+use Rattle.integers.proofs.Snoc.{snoc-at}
 use Rattle.models.specs.Models.{tiesToEven}
 use Rattle.state.specs.Valid.{Valid}
 use Rattle.state.specs.declared.State.{State}
@@ -47,16 +45,7 @@ mean-small s v h l m =
 pub coefficient-small : (s : State) → Valid s → (j : ℕ) → j ≤ 512 → coefficient s j ≤ 9007199254740992
 coefficient-small s v j m = omega (arith, coefficient-most s v j m)
 
--- ---- a list that grows by one at its end: what stands at each place
-pub snoc-at : {A : Type 0} (L : ℕ → List A) (f : ℕ → A) (d : A) → ((n : ℕ) → L (suc n) ≡ L n ++ (f n ∷ [])) → ((n : ℕ) → length (L n) ≡ n)
-    → (h i : ℕ) → i < h → getD (L h) i d ≡ f i
-snoc-at L f d step size zero i l = absurd (omega arith)
-snoc-at L f d step size (suc h) i l = ap (λ (x : List _). getD x i d) (step h) ∙ go (eq-or-lt-of-le (le-of-suc-le-suc l)) (snoc-at L f d step size h i)
-  where
-    go : (i ≡ h) ⊎ (i < h) → (i < h → getD (L h) i d ≡ f i) → getD (L h ++ (f h ∷ [])) i d ≡ f i
-    go (inl same) before = rw same (getD-at (L h) (f h) [] d h (size h))
-    go (inr less) before = List·getD-append (L h) (f h ∷ []) d i (omega (arith, size h)) ∙ before less
-
+-- ---- what stands at each place of the lists
 forecast-at : (s : State) (h i : ℕ) (rest : List ℤ) → i < h → getD (forecastList s h ++ rest) i (pos 0) ≡ forecastOf s (suc i)
 unfolding forecastList
 forecast-at s h i rest l =

@@ -11,13 +11,13 @@ use lib.Dec.{T, eqb}
 use lib.ListN.{getD}
 use lib.Ieee.{Float, nan, binary64, ofBits}
 use lib.Ieee.Scale.{finite}
+use Rattle.integers.proofs.Snoc.{snoc-at}
 use Rattle.integers.proofs.Tests.{both}
 use Rattle.state.proofs.Tests.{then-zero, unless-zero}
 use Rattle.state.specs.declared.State.{State}
 use Rattle.relative.specs.declared.RelativeVariance.the-variants as variance-of
 use Rattle.relative.specs.Relative.{squaredMean, squaredCoefficient, sumTo, sumsFinite, nextTheta, thetas, thetasFinite, varianceOf, allFinite, inputCode, relativeCode, relativeAnswer, relativeVariance}
 use Rattle.relative.specs.Promises.{AcceptedIsFinite}
-use Rattle.relative.proofs.Bounds.{snoc-at}
 use Rattle.relative.proofs.Floats.{no-nan}
 use Rattle.relative.proofs.Recursion.{thetas-length, sum-append}
 

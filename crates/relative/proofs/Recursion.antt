@@ -10,6 +10,8 @@ use lib.ListN.{length, getD, take, drop, set, length-append, List·getD-append}
 use lib.Seq.{take-at, take-suc, length-take-le, drop-cons, append-snoc, set-at}
 use lib.Ieee.{Float, nan, binary64, add, mul}
 use lib.Ieee.Scale.{finite}
+use Rattle.integers.proofs.Snoc.{snoc-more}
+use Rattle.integers.proofs.Tests.{and-false}
 use Rattle.relative.specs.Relative.{squared, thetaIn, sumTo, sumsFinite, nextTheta, thetas, thetasFinite}
 use Rattle.relative.specs.Facts.{squareList}
 use Rattle.relative.proofs.Floats.{sum-parts, product-parts}
@@ -32,7 +34,7 @@ squares-length ns (suc n) = rw (length-append, squares-length ns n, add-one)
 pub squares-more : (ns : List ℕ) (cells : List Float) (i : ℕ) → i < length cells
     → set (squareList ns i ++ drop i cells) i (squared (pos (getD ns i 0))) ≡ squareList ns (suc i) ++ drop (suc i) cells
 unfolding squareList
-squares-more ns cells i h = rw (drop-cons cells i nan h, set-at (squareList ns i) (getD cells i nan) (drop (suc i) cells) (squared (pos (getD ns i 0))) i (squares-length ns i), append-snoc)
+squares-more ns cells i h = snoc-more (squareList ns) (λ (n : ℕ). squared (pos (getD ns n 0))) nan (λ n. refl) (squares-length ns) i cells h
 
 pub first-set : (xs : List Float) (v : Float) → 0 < length xs → set xs 0 v ≡ v ∷ drop 1 (set xs 0 v)
 first-set [] v h = absurd (omega arith)
@@ -66,13 +68,9 @@ module _ (μ² c² : ℕ → Float) (σ² : Float) where
   theta-more : (cells : List Float) (i : ℕ) → i < length cells
       → set (thetas μ² c² σ² i ++ drop i cells) i (nextTheta μ² c² σ² (thetas μ² c² σ² i) i) ≡ thetas μ² c² σ² (suc i) ++ drop (suc i) cells
   unfolding thetas
-  theta-more cells i h = rw (drop-cons cells i nan h, set-at (thetas μ² c² σ² i) (getD cells i nan) (drop (suc i) cells) (nextTheta μ² c² σ² (thetas μ² c² σ² i) i) i (thetas-length i), append-snoc)
+  theta-more cells i h = snoc-more (thetas μ² c² σ²) (λ (n : ℕ). nextTheta μ² c² σ² (thetas μ² c² σ² n) n) nan (λ n. refl) thetas-length i cells h
 
 -- ---- where θ is finite, its S is, up to each j
-and-false : (a : Bool) → (a && false) ≡ false
-and-false true = refl
-and-false false = refl
-
 sums-finite : (c² : ℕ → Float) (θs : List Float) (h j : ℕ) → finite (sumTo c² θs h j) ≡ true → sumsFinite c² θs h j ≡ true
 unfolding sumTo sumsFinite
 sums-finite c² θs h zero e = refl

@@ -1,12 +1,12 @@
 -- The list of coefficients: how long it is, and one more; and how large a coefficient is.
 use Prim.Native.Nat.{ℕ, zero, suc, _+_, _*_, _%_, _<_, _≤_}
-use mathlib.Core.Path.{_≡_, refl, sym, _∙_}
+use mathlib.Core.Path.{_≡_, refl}
 use mathlib.Core.Bool.{Bool, true, false, cond, _&&_}
 use mathlib.Core.List.{List, _++_}
 use native.Mathlib.Omega.{arith}
 use lib.Dec.{eqb}
-use lib.ListN.{length, getD, set, drop, length-append}
-use lib.Seq.{drop-cons, set-at, append-snoc}
+use lib.ListN.{length, set, drop, length-append}
+use Rattle.integers.proofs.Snoc.{snoc-more}
 use Rattle.models.specs.Models.{trendOf, hasSeason, tiesToEven}
 use Rattle.state.specs.Fixed.{shareNat}
 use Rattle.state.specs.Valid.{Valid}
@@ -24,10 +24,7 @@ coefficients-length s (suc h) = rw (length-append, coefficients-length s h) (ome
 pub coefficients-more : (s : State) (i : ℕ) (cells : List ℕ) → i < length cells →
     set (coefficientList s i ++ drop i cells) i (coefficient s (suc i)) ≡ coefficientList s (suc i) ++ drop (suc i) cells
 unfolding coefficientList
-coefficients-more s i cells h =
-    rw (drop-cons cells i 0)
-    (set-at (coefficientList s i) (getD cells i 0) (drop (suc i) cells) (coefficient s (suc i)) i (coefficients-length s i)
-    ∙ sym (append-snoc (coefficientList s i) (coefficient s (suc i)) (drop (suc i) cells)))
+coefficients-more s i cells h = snoc-more (coefficientList s) (λ (n : ℕ). coefficient s (suc n)) 0 (λ n. refl) (coefficients-length s) i cells h
 
 -- ---- how large a coefficient is
 damping-most : (even : Bool) (F : ℕ) → F ≤ 65536 → (j : ℕ) → dampingSum even F j ≤ 65536 * j
