@@ -13,7 +13,8 @@
 #include <time.h>
 
 static const struct calls proved = {"proved",     forecaster_step,     forecaster_missing,      forecaster_forecast, bench_forecasts,
-                                    bench_weight, bench_weight_groups, bench_relative_variance, bench_batch};
+                                    bench_weight, bench_weight_groups, bench_relative_variance, bench_batch,
+                                    bench_batch_on, bench_forecasts_on};
 
 /* BUILDS is BUILD(gcc_O2) BUILD(gcc_O3) .., as bench/run has it */
 #define BUILD(name) extern const struct calls name##_calls;
@@ -23,10 +24,12 @@ BUILDS
 static const struct calls *const versions[] = {&proved, BUILDS};
 enum { VERSIONS = sizeof versions / sizeof *versions, READINGS = 4096, ROUNDS = 400 };
 
-enum call { STEP, MISSING, FORECAST, FORECASTS, WEIGHT, WEIGHT_GROUPS, RELATIVE_VARIANCE, BATCH };
+enum call { STEP, MISSING, FORECAST, FORECASTS, WEIGHT, WEIGHT_GROUPS, RELATIVE_VARIANCE, BATCH, BATCH_ON, FORECASTS_ON };
 static const char *const ours[] = {"forecaster_step", "forecaster_missing",  "forecaster_forecast",     "bench_forecasts",
-                                   "bench_weight",    "bench_weight_groups", "bench_relative_variance", "bench_batch"};
-static const char *const theirs[] = {"step", "missing", "forecast", "forecasts", "weight", "weight_groups", "relative_variance", "batch"};
+                                   "bench_weight",    "bench_weight_groups", "bench_relative_variance", "bench_batch",
+                                   "bench_batch_on",  "bench_forecasts_on"};
+static const char *const theirs[] = {"step",          "missing",           "forecast", "forecasts", "weight",
+                                     "weight_groups", "relative_variance", "batch",    "batch_on",  "forecasts_on"};
 
 struct row {
     const char *name;
@@ -53,9 +56,12 @@ static const struct row rows[] = {
     EACH("forecast-1", FORECAST, 1),
     EACH("forecast-512", FORECAST, 512),
     EACH("all-512", FORECASTS, 512),
+    {"all-on-512 6-24", FORECASTS_ON, 6, 24, 512, 0},
     EACH("weight-512", WEIGHT, 512),
     EACH("groups-512", WEIGHT_GROUPS, 512),
     EACH("batch", BATCH, 0),
+    {"batch-on 4-24", BATCH_ON, 4, 24, 0, 0},
+    {"batch-on 6-24", BATCH_ON, 6, 24, 0, 0},
     EVEN("step", STEP, 0),
     EVEN("forecast-512", FORECAST, 512),
     EVEN("all-512", FORECASTS, 512),
@@ -80,6 +86,19 @@ struct lent {
 };
 
 static int32_t readings[READINGS];
+
+/* The calendar of the -on rows (W-208), from count 0 and place 0 over a batch. Of ten days, which have 240 steps, place 2 is
+ * skipped on the fifth and used again on the tenth; the counts of the second and of the seventh are of place 12, without effect. */
+enum { CHANGES = 36 };
+static uint64_t skipped[CHANGES], repeated[CHANGES];
+
+static void make_calendar(void) {
+    for (int k = 0; k < CHANGES; k += 2) {
+        uint64_t from = 240 * (uint64_t)k / 2;
+        skipped[k] = from + 1 * 24 + 12, skipped[k + 1] = from + 4 * 24 + 2;
+        repeated[k] = from + 6 * 24 + 12 - 1, repeated[k + 1] = from + 9 * 24 + 2 - 1;
+    }
+}
 
 static struct lent make(const struct row *r) {
     int trend = r->model & 3;
@@ -132,6 +151,13 @@ static inline void call(const struct row *r, const struct calls *who, struct len
     case BATCH:
         a->code = who->batch(g->bytes, g->length, readings, READINGS, a->cells, READINGS, &a->taken);
         break;
+    case BATCH_ON:
+        a->code = who->batch_on(g->bytes, g->length, skipped, CHANGES, repeated, CHANGES, readings, READINGS, a->cells, READINGS,
+                                &a->taken);
+        break;
+    case FORECASTS_ON:
+        a->code = who->forecasts_on(g->bytes, g->length, skipped, CHANGES, repeated, CHANGES, r->horizon, a->cells, READINGS);
+        break;
     }
 }
 
@@ -162,7 +188,8 @@ static void compare(const struct row *r) {
 
 static void times(const struct row *r, double *least) {
     static struct answer a;
-    unsigned calls = r->refused ? 1000 : r->call == BATCH ? 4 : r->horizon == 512 ? r->call == RELATIVE_VARIANCE ? 1 : 50 : 1000;
+    int batch = r->call == BATCH || r->call == BATCH_ON;
+    unsigned calls = r->refused ? 1000 : batch ? 4 : r->horizon == 512 ? r->call == RELATIVE_VARIANCE ? 1 : 50 : 1000;
     for (int v = 0; v < VERSIONS; v++)
         least[v] = 1e300;
     for (int round = 0; round < ROUNDS; round++)
@@ -199,6 +226,7 @@ int main(int argc, char **argv) {
         x = x * 1664525u + 1013904223u;
         readings[i] = 15 + (int32_t)(x >> 28);
     }
+    make_calendar();
     if (argc == 2 && !strcmp(argv[1], "rows")) {
         for (int i = 0; i < ROWS; i++)
             puts(rows[i].name);

@@ -12,8 +12,18 @@
 uint8_t bench_batch(const uint8_t *snapshot, size_t length, const int32_t *readings, size_t n, int64_t *levels, size_t room,
                     size_t *taken);
 
+/* The same on a calendar of clock changes (W-208): `skipped` and `repeated` are two lists of step counts, each rising, with none
+ * in both; where place 2 is due at a count of the first it is skipped, at one of the second it is used again. 12, 20, then each
+ * reading's. */
+uint8_t bench_batch_on(const uint8_t *snapshot, size_t length, const uint64_t *skipped, size_t skips, const uint64_t *repeated,
+                       size_t repeats, const int32_t *readings, size_t n, int64_t *levels, size_t room, size_t *taken);
+
 /* The forecasts for 1 to the horizon into the first cells; nothing is written where refused. 11, 12. */
 uint8_t bench_forecasts(const uint8_t *snapshot, size_t length, uint32_t horizon, int64_t *values, size_t room);
+
+/* The same on a calendar of clock changes (W-208). 11, 12, 20. */
+uint8_t bench_forecasts_on(const uint8_t *snapshot, size_t length, const uint64_t *skipped, size_t skips, const uint64_t *repeated,
+                           size_t repeats, uint32_t horizon, int64_t *values, size_t room);
 
 /* The weight of a horizon into *weight, which stays as it was where refused. 3 for a model with relative errors (W-205), 11. */
 uint8_t bench_weight(const uint8_t *snapshot, size_t length, uint32_t horizon, uint64_t *weight);

@@ -17,6 +17,10 @@ struct calls {
                                  size_t room);
     uint8_t (*batch)(const uint8_t *group, size_t length, const int32_t *readings, size_t n, int64_t *levels, size_t room,
                      size_t *taken);
+    uint8_t (*batch_on)(const uint8_t *group, size_t length, const uint64_t *skipped, size_t skips, const uint64_t *repeated,
+                        size_t repeats, const int32_t *readings, size_t n, int64_t *levels, size_t room, size_t *taken);
+    uint8_t (*forecasts_on)(const uint8_t *group, size_t length, const uint64_t *skipped, size_t skips, const uint64_t *repeated,
+                            size_t repeats, uint32_t horizon, int64_t *values, size_t room);
 };
 
 #endif

@@ -15,10 +15,13 @@
 #define ref_weight_groups NAME(VERSION, weight_groups)
 #define ref_relative_variance NAME(VERSION, relative_variance)
 #define ref_batch NAME(VERSION, batch)
+#define ref_batch_on NAME(VERSION, batch_on)
+#define ref_forecasts_on NAME(VERSION, forecasts_on)
 #define ref_switch_to_even NAME(VERSION, switch_to_even)
 #define ref_group NAME(VERSION, group)
 #define ref_old_group NAME(VERSION, old_group)
 #include "reference.c"
 
 const struct calls NAME(VERSION, calls) = {QUOTED(VERSION), ref_step,          ref_missing,           ref_forecast, ref_forecasts,
-                                           ref_weight,      ref_weight_groups, ref_relative_variance, ref_batch};
+                                           ref_weight,      ref_weight_groups, ref_relative_variance, ref_batch,
+                                           ref_batch_on,    ref_forecasts_on};

@@ -46,7 +46,8 @@ extern "C" {
 #define FORECASTER_GROUP_LENGTH(m) (71 + 10 * (size_t)(m))
 #define FORECASTER_OLD_GROUP_LENGTH(m) (46 + 10 * (size_t)(m))
 
-/* The refusals that a call can return; 18 and 19 are of the variance of relative errors, and no call here returns them. */
+/* The refusals that a call can return; 18 and 19 are of the variance of relative errors, 20 of calls on a calendar of clock
+ * changes, and no call here returns them. */
 enum {
     FORECASTER_ACCEPTED = 0,
     FORECASTER_UNKNOWN_COMMAND = 2, /* The first byte of a command is none of the commands. */
@@ -66,7 +67,8 @@ enum {
     FORECASTER_UNUSUAL_GAINS = 16,  /* 10, and the gains are outside the usual region. Checked right after 7. */
     FORECASTER_BAD_SCORE = 17,      /* The readings exceed the count, or the sum readings * 2^52. Checked right after 10. */
     FORECASTER_BAD_SIGMA2 = 18,     /* The bits of sigma^2 exceed those of 1.0. Checked right after 11. */
-    FORECASTER_NOT_FINITE = 19      /* A theta, an S or the variance is not finite. Checked last. */
+    FORECASTER_NOT_FINITE = 19,     /* A theta, an S or the variance is not finite. Checked last. */
+    FORECASTER_BAD_CALENDAR = 20    /* A list doesn't rise or shares a count, a window isn't valid, or m isn't 24. */
 };
 
 /* One step: takes the reading, a whole number from -1,000,000 to 1,000,000, into the group's state. An accepted step

@@ -1,6 +1,7 @@
 /* Documents 01 and 02 in C, written from those papers and not from the proved code: the station's calls, and those for a
- * batch, all horizons, the weight and the variance of relative errors, on a slice that holds one group. The group is checked where it lies and only what a
- * call moves is written. The tests compare the proved calls with these, and the benchmark measures both.
+ * batch and all horizons, both on a calendar too, the weight and the variance of relative errors, on a slice that holds one
+ * group. The group is checked where it lies and only what a call moves is written. The tests compare the proved calls with
+ * these, and the benchmark measures both.
  *
  * An old group, without command 15 (W-204), may have up to 25 bytes after it, which are not looked at. The calls that write
  * the group, a reading, a missing reading and the switch, need those 25, else they are refusal 12, and leave the new form.
@@ -48,6 +49,11 @@ uint8_t ref_forecast(const uint8_t *group, size_t length, uint32_t horizon, int6
 /* The forecasts for 1 to the horizon into the first cells. 11, 12. */
 uint8_t ref_forecasts(const uint8_t *group, size_t length, uint32_t horizon, int64_t *values, size_t room);
 
+/* The same on a calendar of clock changes (W-208): two lists of step counts, at which place 2, where it is due, is skipped and
+ * used again. 11, 12, 20. */
+uint8_t ref_forecasts_on(const uint8_t *group, size_t length, const uint64_t *skipped, size_t skips, const uint64_t *repeated,
+                         size_t repeats, uint32_t horizon, int64_t *values, size_t room);
+
 /* The weight of a horizon into *weight. 3 for a model with relative errors (W-205), 11. */
 uint8_t ref_weight(const uint8_t *group, size_t length, uint32_t horizon, uint64_t *weight);
 
@@ -64,5 +70,9 @@ uint8_t ref_relative_variance(const uint8_t *group, size_t length, uint32_t hori
  * 13, 14, 15, at the first of which it halts. *taken gets the readings taken, 0 where it was refused before the first. */
 uint8_t ref_batch(const uint8_t *group, size_t length, const int32_t *readings, size_t n, int64_t *levels, size_t room,
                   size_t *taken);
+
+/* The same on a calendar. 12, 20, then each reading's. */
+uint8_t ref_batch_on(const uint8_t *group, size_t length, const uint64_t *skipped, size_t skips, const uint64_t *repeated,
+                     size_t repeats, const int32_t *readings, size_t n, int64_t *levels, size_t room, size_t *taken);
 
 #endif

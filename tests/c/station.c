@@ -34,9 +34,9 @@ static void expect(int holds, const char *text) {
 }
 
 /* ---- the calls, and the refusals that each can give and has given */
-enum call { STEP, MISSING, SWITCH, FORECAST, BATCH, FORECASTS, WEIGHT, WEIGHT_GROUPS, RELATIVE_VARIANCE, CALLS };
-static const char *const names[CALLS] = {"step",      "missing", "switch",        "forecast",         "batch",
-                                         "forecasts", "weight",  "weight groups", "relative variance"};
+enum call { STEP, MISSING, SWITCH, FORECAST, BATCH, FORECASTS, WEIGHT, WEIGHT_GROUPS, RELATIVE_VARIANCE, BATCH_ON, FORECASTS_ON, CALLS };
+static const char *const names[CALLS] = {"step",   "missing",       "switch",            "forecast", "batch",       "forecasts",
+                                         "weight", "weight groups", "relative variance", "batch on", "forecasts on"};
 #define BIT(code) (1u << (code))
 #define OF_A_GROUP (BIT(11) - BIT(2) + BIT(16) + BIT(17)) /* 2 to 10, 16 and 17 */
 #define REWRITTEN (OF_A_GROUP | BIT(12))                  /* an old group without room */
@@ -44,7 +44,9 @@ static const char *const names[CALLS] = {"step",      "missing", "switch",      
 static const unsigned refusals[CALLS] = {REWRITTEN | OF_A_READING, REWRITTEN | BIT(14) | BIT(15),        REWRITTEN,
                                          OF_A_GROUP | BIT(11),     OF_A_GROUP | BIT(12) | OF_A_READING, OF_A_GROUP | BIT(11) | BIT(12),
                                          OF_A_GROUP | BIT(11),     OF_A_GROUP | BIT(11) | BIT(12),
-                                         OF_A_GROUP | BIT(11) | BIT(12) | BIT(18) | BIT(19)};
+                                         OF_A_GROUP | BIT(11) | BIT(12) | BIT(18) | BIT(19),
+                                         OF_A_GROUP | BIT(12) | BIT(20) | OF_A_READING,
+                                         OF_A_GROUP | BIT(11) | BIT(12) | BIT(20)};
 static unsigned long given[CALLS][256];
 
 static int answered(enum call call, uint8_t got, uint8_t code) {
@@ -63,7 +65,7 @@ static void all_given(void) {
     what = "refusals";
     for (int call = 0; call < CALLS; call++)
         for (int code = 0; code < 256; code++) {
-            int can = code == 0 || (code < 20 && refusals[call] & BIT(code));
+            int can = code == 0 || (code <= FORECASTER_BAD_CALENDAR && refusals[call] & BIT(code));
             if (can != (given[call][code] != 0)) {
                 failures++;
                 fprintf(stderr, "%s: %d was %s\n", names[call], code, can ? "never given" : "given");
@@ -101,8 +103,8 @@ static void expect_bytes(const void *lent, const void *bytes, size_t length) {
     expect(length == 0 || memcmp(at, bytes, length) == 0, "a buffer holds other bytes than expected");
 }
 
-enum { MOST_CELLS = 600 };
-static struct pages groups, reference_groups, number_cells, reading_cells;
+enum { MOST_CELLS = 600, MOST_CHANGES = 64 };
+static struct pages groups, reference_groups, number_cells, reading_cells, skip_cells, repeat_cells;
 
 /* the number's cell between two guards */
 struct cell {
@@ -251,6 +253,49 @@ static int try_relative(const uint8_t *bytes, size_t length, uint32_t horizon, u
     return got;
 }
 
+/* the two lists of a calendar (W-208) */
+struct calendar {
+    uint64_t skipped[MOST_CHANGES], repeated[MOST_CHANGES];
+    size_t skips, repeats;
+};
+
+static const struct calendar no_changes;
+
+static int try_batch_on(const uint8_t *bytes, size_t length, const struct calendar *on, const int32_t *readings, size_t n, size_t room) {
+    int64_t expected[MOST_CELLS];
+    const uint8_t *at = lend(groups, bytes, length), *theirs = lend(reference_groups, bytes, length);
+    const uint64_t *skipped = lend(skip_cells, on->skipped, on->skips * sizeof *skipped);
+    const uint64_t *repeated = lend(repeat_cells, on->repeated, on->repeats * sizeof *repeated);
+    const int32_t *read = lend(reading_cells, readings, n * sizeof *readings);
+    int64_t *cells = untouched(expected, room);
+    size_t taken, got_taken[3] = {77, 77, 77};
+    uint8_t code = ref_batch_on(theirs, length, on->skipped, on->skips, on->repeated, on->repeats, readings, n, expected, room, &taken);
+    int got = answered(BATCH_ON, bench_batch_on(at, length, skipped, on->skips, repeated, on->repeats, read, n, cells, room, &got_taken[1]), code);
+    expect_bytes(at, bytes, length);
+    expect_bytes(skipped, on->skipped, on->skips * sizeof *skipped);
+    expect_bytes(repeated, on->repeated, on->repeats * sizeof *repeated);
+    expect_bytes(read, readings, n * sizeof *readings);
+    expect_bytes(cells, expected, room * sizeof *expected);
+    expect(got_taken[0] == 77 && got_taken[2] == 77, "a byte beside the readings taken was written");
+    expect(got_taken[1] == taken, "the readings taken are not those expected");
+    return got;
+}
+
+static int try_forecasts_on(const uint8_t *bytes, size_t length, const struct calendar *on, uint32_t horizon, size_t room) {
+    int64_t expected[MOST_CELLS];
+    const uint8_t *at = lend(groups, bytes, length), *theirs = lend(reference_groups, bytes, length);
+    const uint64_t *skipped = lend(skip_cells, on->skipped, on->skips * sizeof *skipped);
+    const uint64_t *repeated = lend(repeat_cells, on->repeated, on->repeats * sizeof *repeated);
+    int64_t *cells = untouched(expected, room);
+    uint8_t code = ref_forecasts_on(theirs, length, on->skipped, on->skips, on->repeated, on->repeats, horizon, expected, room);
+    int got = answered(FORECASTS_ON, bench_forecasts_on(at, length, skipped, on->skips, repeated, on->repeats, horizon, cells, room), code);
+    expect_bytes(at, bytes, length);
+    expect_bytes(skipped, on->skipped, on->skips * sizeof *skipped);
+    expect_bytes(repeated, on->repeated, on->repeats * sizeof *repeated);
+    expect_bytes(cells, expected, room * sizeof *expected);
+    return got;
+}
+
 /* all calls on bytes that each must refuse by the same number, and leave as they are */
 static void all_refuse(const uint8_t *bytes, size_t length, int code) {
     uint8_t copy[MOST];
@@ -266,6 +311,8 @@ static void all_refuse(const uint8_t *bytes, size_t length, int code) {
     expect(try_weight(bytes, length, 1) == code, "a weight was not refused by this number");
     expect(try_groups(bytes, length, 1, 48) == code, "the groups of a weight were not refused by this number");
     expect(try_relative(bytes, length, 1, 0, 1) == code, "a relative variance was not refused by this number");
+    expect(try_batch_on(bytes, length, &no_changes, readings, 2, 2) == code, "a batch on a calendar was not refused by this number");
+    expect(try_forecasts_on(bytes, length, &no_changes, 2, 2) == code, "all horizons on a calendar were not refused by this number");
 }
 
 /* the calls for a horizon, on a group that each must take, but for the variance that its errors do not have (W-205) */
@@ -461,7 +508,26 @@ static void listed_cases(void) {
     expect(bench_relative_variance(at, n, 3, HALF, &value, thetas, 3) == 0 && value == 0.75, "T5: the variance of 3");
     expect(thetas[0] == 0 && thetas[1] == 16 && thetas[2] == 0.5, "T5: theta of 1, 2, 3");
     expect(bench_relative_variance(at, n, 3, ONE + 1, &value, thetas, 3) == FORECASTER_BAD_SIGMA2 && value == 0.75, "18");
-    calls += 16 + 24 + 6 + 6;
+    what = "W-208: the value at a place is its number in units, and the level 0";
+    const uint64_t seven[] = {7};
+    const int32_t five[] = {5};
+    int64_t cells[4] = {7, 7, 7, 7};
+    size_t taken = 0;
+    st = plain(4, 24), st.G = 32768, st.p = 2, st.count = 7;
+    for (int k = 0; k < 24; k++)
+        st.s[k] = 65536 * k;
+    n = ref_group(&st, bytes);
+    at = lend(groups, bytes, n);
+    for (size_t k = 0; k < 2; k++) { /* 7 in the first list, then in the second */
+        const int64_t skip[] = {3, 4, 5}, again[] = {2, 2, 3}, *places = k ? again : skip;
+        expect(bench_forecasts_on(at, n, seven, 1 - k, seven, k, 3, cells, 4) == 0 && cells[3] == 7, "forecasts 1, 2, 3");
+        for (int j = 0; j < 3; j++)
+            expect(cells[j] == 65536 * places[j], "the forecasts are not those of their places");
+        expect(bench_batch_on(at, n, seven, 1 - k, seven, k, five, 1, cells, 1, &taken) == 0 && taken == 1, "a batch of one reading");
+        expect(cells[0] == (k ? 49152 : 32768), "the level is not that of its place");
+    }
+    expect(bench_batch_on(at, n, seven, 1, seven, 1, five, 1, cells, 1, &taken) == FORECASTER_BAD_CALENDAR && taken == 0, "20");
+    calls += 16 + 24 + 6 + 6 + 5;
 }
 
 /* ---- refusals 2, 3 and 4 at every place of every kind of group */
@@ -954,6 +1020,92 @@ static void operands(void) {
 #undef TAKEN
 }
 
+/* ---- a calendar of clock changes (W-208): one count at every distance from the state's, from every place; 20 at each place of a
+ * list, for every season length, and among the other refusals */
+static void calendars(void) {
+    uint8_t bytes[MOST];
+    struct ref_state st;
+    size_t n;
+    int32_t readings[60];
+    for (int k = 0; k < 60; k++)
+        readings[k] = k % 9 == 4 ? INT32_MIN : k * k % 31 - 9;
+    what = "a clock change";
+    for (int i = 0; i < MODELS; i++)
+        for (int p = 0; p < 24 && seasonal(models[i]); p++)
+            for (int64_t from = -2; from < 60; from++) {
+                struct calendar on = {{0}, {0}, 0, 0};
+                st = plain(models[i], 24), st.p = p, st.count = from % 7 ? 5000 : (UINT64_C(1) << 48) - (uint64_t)(p % 3) - 25;
+                st.l = 1234567, st.b = trend_of(models[i]) ? -4321 : 0;
+                n = ref_group(&st, bytes);
+                on.skipped[0] = st.count + (uint64_t)from, on.skips = 1; /* from -2 on, modulo 2^64 */
+                on.repeated[0] = on.skipped[0] + 1, on.repeats = (size_t)(p % 2);
+                try_batch_on(bytes, n, &on, readings, 60, 60);
+                expect(try_forecasts_on(bytes, n, &on, 60, 60) == 0, "forecasts were refused");
+                on.repeats = 1, on.skips = (size_t)(p % 2);
+                try_batch_on(bytes, n, &on, readings, 60, 60);
+                expect(try_forecasts_on(bytes, n, &on, 60, 60) == 0, "forecasts were refused");
+            }
+    what = "a list that does not rise, or a count in both";
+    st = plain(6, 24), st.p = 2;
+    n = ref_group(&st, bytes);
+    for (size_t skips = 0; skips <= 6; skips++)
+        for (size_t repeats = 0; repeats <= 6; repeats++)
+            for (uint64_t from = 0; from <= 6; from++) {
+                struct calendar on = {{0}, {0}, skips, repeats};
+                for (size_t k = 0; k < skips; k++)
+                    on.skipped[k] = k == skips - 1 && from == 6 ? UINT64_MAX - 1 : 2 * k + 2 * from + 2;
+                for (size_t k = 0; k < repeats; k++)
+                    on.repeated[k] = k == repeats - 1 && from == 6 ? UINT64_MAX : 2 * k + 5;
+                expect(try_batch_on(bytes, n, &on, readings, 0, 0) == 0, "rising lists were refused");
+                expect(try_forecasts_on(bytes, n, &on, 30, 30) == 0, "rising lists were refused");
+                for (size_t k = 0; k < skips + repeats; k++) {
+                    uint64_t *count = k < skips ? &on.skipped[k] : &on.repeated[k - skips], kept = *count;
+                    if (k != 0 && k != skips) { /* the count before it, and one below */
+                        *count = count[-1];
+                        expect(try_batch_on(bytes, n, &on, readings, 0, 0) == 20, "equal neighbours were taken");
+                        *count = count[-1] - 1;
+                        expect(try_forecasts_on(bytes, n, &on, 1, 1) == 20, "a count below the one before it was taken");
+                        *count = kept;
+                    }
+                    for (size_t j = 0; j < repeats && k < skips; j++) {
+                        uint64_t both = on.repeated[j];
+                        on.repeated[j] = kept;
+                        expect(try_batch_on(bytes, n, &on, readings, 0, 0) == 20, "a count in both was taken");
+                        on.repeated[j] = both;
+                    }
+                }
+            }
+    what = "a season that has no calendar";
+    for (int i = 0; i < MODELS; i++)
+        for (int m = seasonal(models[i]) ? 2 : 0; m <= (seasonal(models[i]) ? 48 : 0); m++) {
+            int code = m == 24 ? 0 : FORECASTER_BAD_CALENDAR;
+            st = plain(models[i], m);
+            n = ref_group(&st, bytes);
+            expect(try_batch_on(bytes, n, &no_changes, readings, 3, 3) == code, "a batch on a calendar");
+            expect(try_batch_on(bytes, n, &no_changes, readings, 3, 2) == FORECASTER_SHORT_SLICE, "12 comes before 20");
+            expect(try_forecasts_on(bytes, n, &no_changes, 3, 3) == code, "forecasts on a calendar");
+            expect(try_forecasts_on(bytes, n, &no_changes, 3, 2) == FORECASTER_SHORT_SLICE, "12 comes before 20");
+            expect(try_forecasts_on(bytes, n, &no_changes, 513, 0) == FORECASTER_BAD_HORIZON, "11 comes before 12 and 20");
+            st.count = UINT64_C(1) << 48;
+            n = ref_group(&st, bytes);
+            const int32_t out[] = {1000001};
+            expect(try_batch_on(bytes, n, &no_changes, out, 1, 1) == (code ? code : FORECASTER_BAD_READING), "20 comes before 13");
+            expect(try_batch_on(bytes, n, &no_changes, readings, 1, 1) == (code ? code : FORECASTER_COUNT_FULL), "20 comes before 14");
+        }
+    what = "a change that leaves the range";
+    for (int place = 2; place <= 3; place++)
+        for (int skip = 0; skip < 2; skip++) {
+            const int64_t range = INT64_C(1) << 40;
+            const int32_t one[] = {1};
+            struct calendar on = {{0}, {0}, (size_t)skip, (size_t)!skip};
+            st = plain(4, 24), st.A = 0, st.G = 32768, st.l = -range, st.p = 2; /* the season value becomes its half and more than range / 2 */
+            for (int k = 0; k < 24; k++)
+                st.s[k] = k == place ? range : 0;
+            n = ref_group(&st, bytes);
+            expect(try_batch_on(bytes, n, &on, one, 1, 1) == (place == 2 + skip ? FORECASTER_LEAVES_RANGE : 0), "the place of a season value");
+        }
+}
+
 /* ---- random groups, whole and damaged */
 static struct ref_state random_state(void) {
     int model = models[random64() % MODELS];
@@ -1045,6 +1197,45 @@ static void damaged_groups(int rounds) {
     }
 }
 
+/* ---- random groups of 24 places, with lists whose counts are often due, and now and then spoilt */
+static size_t random_list(uint64_t count, uint64_t *list) {
+    size_t n = (size_t)(pick(0, 3) ? pick(0, 6) : pick(0, MOST_CHANGES));
+    uint64_t at = pick(0, 4) ? count + (uint64_t)pick(0, 30) : (uint64_t)pick(0, 1000000);
+    for (size_t k = 0; k < n; k++) {
+        list[k] = at;
+        at += (uint64_t)(pick(0, 2) ? pick(1, 30) : 24 - pick(0, 1));
+    }
+    if (n > 0 && pick(0, 19) == 0)
+        list[random64() % n] = pick(0, 1) ? list[random64() % n] : random64();
+    return n;
+}
+
+static void random_calendars(int rounds) {
+    what = "random clock changes";
+    unsigned long taken = given[BATCH_ON][0] + given[FORECASTS_ON][0];
+    for (int i = 0; i < rounds; i++) {
+        struct ref_state st = random_state();
+        if (seasonal(st.model))
+            st.m = pick(0, 19) ? 24 : st.m;
+        if (st.m == 24)
+            st.p = (int)(pick(0, 1) ? 2 : pick(0, 23));
+        for (int k = 0; k < st.m; k++)
+            st.s[k] = pick(-1000000000, 1000000000);
+        uint8_t bytes[MOST];
+        size_t n = in_form(pick(0, 3) == 0, &st, bytes), many = (size_t)pick(0, 60);
+        struct calendar on = {{0}, {0}, 0, 0};
+        on.skips = random_list(st.count, on.skipped);
+        on.repeats = random_list(st.count, on.repeated);
+        int32_t readings[60];
+        for (size_t k = 0; k < many; k++)
+            readings[k] = (int32_t)(pick(0, 9) == 0 ? INT32_MIN : pick(0, 99) == 0 ? pick(INT32_MIN, INT32_MAX) : pick(-30, 30));
+        try_batch_on(bytes, n, &on, readings, many, pick(0, 9) == 0 ? (size_t)pick(0, 60) : many);
+        uint32_t horizon = (uint32_t)(pick(0, 9) == 0 ? pick(0, 600) : pick(1, 60));
+        try_forecasts_on(bytes, n, &on, horizon, pick(0, 9) == 0 ? (size_t)pick(0, 600) : horizon);
+    }
+    expect(given[BATCH_ON][0] + given[FORECASTS_ON][0] - taken > (unsigned long)rounds / 4, "most calls were refused");
+}
+
 /* ---- relative errors (W-205): every call of the station on a group with bit 3 does what it does on the one without */
 static void same_numbers(int rounds) {
     what = "a group with relative errors";
@@ -1129,6 +1320,8 @@ int main(void) {
     reference_groups = map_pages(MOST);
     number_cells = map_pages(MOST_CELLS * sizeof(int64_t));
     reading_cells = map_pages(MOST_CELLS * sizeof(int32_t));
+    skip_cells = map_pages(MOST_CHANGES * sizeof(uint64_t));
+    repeat_cells = map_pages(MOST_CHANGES * sizeof(uint64_t));
     listed_cases();
     for (int old = 0; old < 2; old++) {
         cuts_and_commands(0, old);
@@ -1138,7 +1331,9 @@ int main(void) {
     old_groups();
     scores();
     operands();
+    calendars();
     damaged_groups(200000);
+    random_calendars(50000);
     same_numbers(20000);
     what = "a long run";
     for (int i = 0; i < MODELS; i++)

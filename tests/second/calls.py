@@ -1,6 +1,6 @@
 """Calls that no stream reaches, for the program `calls`: states handed in directly, batches, all horizons, the bedside
-display's forecasts, weights, also by time of day, variances of relative errors, short slices, groups read from a slice. Nothing
-here is random.
+display's forecasts, weights, also by time of day, variances of relative errors, the calls on a calendar of clock changes, short
+slices, groups read from a slice. Nothing here is random.
 
 The program reads records and writes a line for each. A record is an operation's byte, the state that the call is made on
 (none where a group is read), and the call's operands; low byte first, signed numbers in two's complement, lengths of 32 bits.
@@ -21,15 +21,18 @@ The program reads records and writes a line for each. A record is an operation's
     15 groups      of a weight (W-210): the length of the unsigned cells lent, for a horizon
     16 relative    variance (W-205): the length of the doubles lent, for a horizon, with the 64 bits of a double for the residuals' variance
     17 coefficients, C for 1 to a horizon: the length of the unsigned cells lent, for a horizon
+    18 to 22       3 to 7 on a calendar of clock changes (W-208): before the call's operands two lists, each a length, at most 64,
+                   and as many step counts of 64 bits: those at which place 2 is skipped, then those at which it is used again
+    23 window      the largest forecast of the next 24 steps inside it (W-208): the two lists, then start and end, a byte each
 
 A state is a length and as many season cells of 64 bits, the others being 0; 1 where command 18 opened it, or 0, model and m, a byte each; A, B, G, F of 32 bits;
 l and b of 64 bits; p, a byte; count, the score's readings, high and low word (W-204), of 64 bits each.
 
 A line is the operation, the refusal or 0, and what the call gives, each number before a blank; a byte is a number. A step, a
-missing reading, a batch, a switch and a read give a state, with all its season cells after the score; a save gives the bytes that the
-state needs or its refusal; a read gives, after the state, the refusal once more and the rest of the bytes, which after a
-refusal begins with the refused command. The cells lent stand last. They start as 77, so that what a call leaves untouched is
-seen. A double is the unsigned number of its 64 bits.
+missing reading, a batch, a switch and a read give a state, with all its season cells after the score; 18 to 22 give what 3 to 7
+do, and 23 what 6 does; a save gives the bytes that the state needs or its refusal; a read gives, after the state, the refusal
+once more and the rest of the bytes, which after a refusal begins with the refused command. The cells lent stand last. They
+start as 77, so that what a call leaves untouched is seen. A double is the unsigned number of its 64 bits.
 """
 
 from dataclasses import replace
@@ -38,8 +41,9 @@ import forecaster as f
 from forecaster import State
 from streams import BAD_SIGMA2S, C, COUNTS, MODELS, ONE, PARAMETERS, RELATIVES, SIGMA2S, TO_EVEN, V, VALUES, WORD32, WORD64, cells, edge_gains, edge_scores, near_zero, nominal, old, opened, overflowing, scored
 
-READ, CHECK, STEP, MISSING, BATCH, FORECAST, FORECASTS, WEIGHT, VARIANCE, SAVE, DISPLAY_FORECAST, DISPLAY_FORECASTS, SWITCH, SWITCH_IN_PLACE, WEIGHT_GROUPS, RELATIVE_VARIANCE, COEFFICIENTS = range(1, 18)
+READ, CHECK, STEP, MISSING, BATCH, FORECAST, FORECASTS, WEIGHT, VARIANCE, SAVE, DISPLAY_FORECAST, DISPLAY_FORECASTS, SWITCH, SWITCH_IN_PLACE, WEIGHT_GROUPS, RELATIVE_VARIANCE, COEFFICIENTS, STEP_ON, MISSING_ON, BATCH_ON, FORECAST_ON, FORECASTS_ON, WINDOW = range(1, 24)
 UNTOUCHED = 77
+LIST_LIMIT = 64  # counts of a list that the program has room for
 
 
 def numbers(size, *values):
@@ -77,6 +81,7 @@ class Script:
         self.lines = []
         self.state = State()
         self.last = State()
+        self.calendar = (), ()
 
     def record(self, operation, operands, found):
         """A record, and its line."""
@@ -95,38 +100,42 @@ class Script:
         """The calls that follow are made on the state that the last step, missing, batch or read handed back."""
         self.state = self.last
 
+    def on(self, skipped, repeated):
+        """Makes these the lists of the calls on a calendar that follow."""
+        self.calendar = tuple(skipped), tuple(repeated)
+
+    def lists(self):
+        assert all(len(counts) <= LIST_LIMIT for counts in self.calendar)
+        return b"".join(numbers(4, len(counts)) + numbers(8, *counts) for counts in self.calendar)
+
     def check(self):
         self.play(CHECK, b"", attempted(lambda: f.check(self.state) or []))
 
-    def step(self, y):
+    def play_change(self, operation, operands, call):
+        """A call that hands back a state and numbers beside it; where it is refused, the state as it was."""
         self.last = self.state
 
-        def call():
-            self.last, e = f.step(self.state, y)
-            return [e]
+        def beside():
+            self.last, *found = call()
+            return found
 
-        found = attempted(call)
-        self.play(STEP, numbers(4, y), found + state_numbers(self.last))
+        found = attempted(beside)
+        self.play(operation, operands, found + state_numbers(self.last))
+
+    def step(self, y):
+        self.play_change(STEP, numbers(4, y), lambda: f.step(self.state, y))
+
+    def step_on(self, y):
+        self.play_change(STEP_ON, self.lists() + numbers(4, y), lambda: f.step_on(self.state, *self.calendar, y))
 
     def missing(self):
-        self.last = self.state
+        self.play_change(MISSING, b"", lambda: [f.missing(self.state)])
 
-        def call():
-            self.last = f.missing(self.state)
-            return []
-
-        found = attempted(call)
-        self.play(MISSING, b"", found + state_numbers(self.last))
+    def missing_on(self):
+        self.play_change(MISSING_ON, self.lists(), lambda: [f.missing_on(self.state, *self.calendar)])
 
     def switch(self):
-        self.last = self.state
-
-        def call():
-            self.last = f.switch_to_even(self.state)
-            return []
-
-        found = attempted(call)
-        self.play(SWITCH, b"", found + state_numbers(self.last))
+        self.play_change(SWITCH, b"", lambda: [f.switch_to_even(self.state)])
 
     def switch_in_place(self, data):
         """On a slice that is to hold one group: what it then holds."""
@@ -137,16 +146,25 @@ class Script:
             code = r.code
         self.record(SWITCH_IN_PLACE, numbers(4, len(data)) + data, [code, *held])
 
-    def batch(self, readings, room):
+    def play_batch(self, operation, lists, readings, room, call):
         filled = [UNTOUCHED] * room
-        self.last, taken, code = f.batch(self.state, readings, filled)
-        operands = numbers(4, room, len(readings), *readings)
-        self.play(BATCH, operands, [code, taken, *state_numbers(self.last), *filled])
+        self.last, taken, code = call(filled)
+        operands = lists + numbers(4, room, len(readings), *readings)
+        self.play(operation, operands, [code, taken, *state_numbers(self.last), *filled])
+
+    def batch(self, readings, room):
+        self.play_batch(BATCH, b"", readings, room, lambda filled: f.batch(self.state, readings, filled))
+
+    def batch_on(self, readings, room):
+        self.play_batch(BATCH_ON, self.lists(), readings, room, lambda filled: f.batch_on(self.state, *self.calendar, readings, filled))
 
     def forecast(self, h):
         """The forecast for one horizon, on the phone and on the bedside display."""
         for operation, limit in ((FORECAST, f.HORIZON_LIMIT), (DISPLAY_FORECAST, f.DISPLAY_LIMIT)):
             self.play(operation, numbers(4, h), attempted(lambda: [f.forecast(self.state, h, limit)]))
+
+    def forecast_on(self, h):
+        self.play(FORECAST_ON, self.lists() + numbers(4, h), attempted(lambda: [f.forecast_on(self.state, *self.calendar, h)]))
 
     def forecasts(self, h, room):
         """The forecasts for all horizons, on the phone and on the bedside display."""
@@ -154,6 +172,15 @@ class Script:
             filled = [UNTOUCHED] * room
             found = attempted(lambda: f.forecasts(self.state, h, filled, limit) or [])
             self.play(operation, numbers(4, room, h), found + filled)
+
+    def forecasts_on(self, h, room):
+        filled = [UNTOUCHED] * room
+        found = attempted(lambda: f.forecasts_on(self.state, *self.calendar, h, filled) or [])
+        self.play(FORECASTS_ON, self.lists() + numbers(4, room, h), found + filled)
+
+    def window(self, start, end):
+        found = attempted(lambda: [f.window_maximum(self.state, *self.calendar, start, end)])
+        self.play(WINDOW, self.lists() + numbers(1, start, end), found)
 
     def weight(self, h):
         self.play(WEIGHT, numbers(4, h), attempted(lambda: [f.weight(self.state, h)]))
@@ -206,6 +233,15 @@ class Script:
         self.relative_variance(3, SIGMA2S[0], 4)
         self.coefficients(3, 4)
         self.save(600)
+
+    def everything_on(self):
+        """Each call on a calendar, with operands that would pass."""
+        self.step_on(20)
+        self.missing_on()
+        self.batch_on([20, f.SENTINEL, 21], 4)
+        self.forecast_on(3)
+        self.forecasts_on(3, 4)
+        self.window(0, 0)
 
 
 def refused_states(t):
@@ -277,6 +313,13 @@ def first_fault(t):
         t.relative_variance(513, WORD64, 0)
         t.coefficients(513, 0)
         t.save(0)
+        t.on((5, 5), (5,))
+        t.step_on(1_000_001)
+        t.missing_on()
+        t.batch_on([1_000_001], 0)
+        t.forecast_on(0)
+        t.forecasts_on(513, 0)
+        t.window(24, 255)
 
 
 def steps(t):
@@ -623,9 +666,240 @@ def lent(t):
                     t.switch_in_place(bad + bytes(after))
 
 
+def hourly(model=6, p=2, count=5000):
+    """A state with 24 places, of which 2 is due."""
+    return replace(nominal(model, 24), p=p, count=count)
+
+
+def calendar(x, changes):
+    """The lists by which the steps at which place 2 is due, from x on, take these letters: s is skipped, r used again, - neither."""
+    skipped, repeated, p, count = [], [], x.p, x.count
+    for change in changes:
+        while p != 2:
+            p, count = (p + 1) % f.HOURS, count + 1
+        {"s": skipped, "r": repeated, "-": []}[change].append(count)
+        _, p = f.turn(skipped, repeated, f.HOURS, p, count)
+        count += 1
+    return skipped, repeated
+
+
+def clock_changes(t):
+    """W-208: each call where place 2 is skipped, is used again, and where the count is listed at another place or a step early or
+    late; a run of calls, each with its own lists; lists of nothing beside the plain calls."""
+    for model in (4, 5, 6, 0x4E):
+        t.use(hourly(model))
+        for changes in "sr":
+            t.on(*calendar(t.state, changes))
+            t.everything_on()
+            t.forecasts_on(26, 26)
+    for p in (0, 1, 3, 23):
+        t.use(hourly(p=p))
+        for lists in ([5000], []), ([], [5000]):
+            t.on(*lists)
+            t.step_on(20)
+            t.forecasts_on(27, 27)
+    t.use(hourly())
+    for count in (0, 4999, 5001, 5000 + 2**32, WORD64):
+        t.on([count], [])
+        t.step_on(20)
+        t.on([], [count])
+        t.missing_on()
+    for changes in "s", "rs", "rrr-":
+        t.use(hourly(5, p=1))
+        t.on(*calendar(t.state, changes))
+        for y in (20, 25, f.SENTINEL, -7, f.SENTINEL, 21):
+            t.missing_on() if y == f.SENTINEL else t.step_on(y)
+            t.keep()
+    t.use(hourly(p=1))
+    # Place 2 is used again at 5001 and skipped at 5002, each by the lists of that call alone.
+    for lists in ([], [5001]), ([], [5001]), ([5002], []), ([5003], [5002]):
+        t.on(*lists)
+        t.step_on(22)
+        t.keep()
+    t.on([], [])
+    for x in (hourly(5), hourly(6, p=23)):
+        t.use(x)
+        t.everything_on()
+        t.step(20)
+        t.missing()
+        t.batch([20, f.SENTINEL, 21], 4)
+        t.forecast(3)
+        t.forecasts(3, 4)
+
+
+EVENS, ODDS = tuple(range(0, 128, 2)), tuple(range(1, 128, 2))
+RISING = [
+    ((5,), ()), ((), (5,)), ((5, 6), ()), ((), (0, WORD64)), ((0,), (1,)), ((1,), (0,)), ((1, 2, 3), (4, 5, 6)), ((4, 5, 6), (1, 2, 3)),
+    ((1, 3, 5), (0, 2, 4, 6)), ((WORD64 - 1,), (WORD64,)), ((2**63 - 1, 2**63), ()), ((), (5, 2**32)), ((5,), (2**32 + 5,)),
+    (EVENS, ODDS), (ODDS, EVENS), ((), ODDS), ((*EVENS[:63], WORD64), (*ODDS[:63], WORD64 - 1)),
+]  # fmt: skip
+NOT_RISING = [
+    ((5, 5), ()), ((), (5, 5)), ((6, 5), ()), ((), (6, 5)), ((1, 2, 3, 3), ()), ((), (1, 1, 2, 3)), ((1, 3, 2, 4), ()), ((), (1, 2, 4, 3)),
+    ((0, 0), ()), ((), (WORD64, WORD64)), ((WORD64, 0), ()), ((), (2**63, 2**63 - 1)), ((2**32, 5), ()), ((7, 6), (1, 2)), ((1, 2), (7, 6)),
+    ((*EVENS[:63], EVENS[62]), ODDS), (EVENS, (ODDS[1], ODDS[0], *ODDS[2:])),
+]  # fmt: skip
+IN_BOTH = [
+    ((5000,), (5000,)), ((0,), (0,)), ((WORD64,), (WORD64,)), ((1, 2, 3), (3,)), ((3,), (1, 2, 3)), ((1, 5, 9), (2, 5, 8)), ((1,), (0, 1)),
+    ((0, 1), (0,)), ((1, 2, 3), (3, 4, 5)), ((3, 4, 5), (1, 2, 3)), (EVENS, (*ODDS[:63], EVENS[63])), ((*ODDS[:63], WORD64), (*EVENS[:63], WORD64)),
+]  # fmt: skip
+
+
+def calendar_refusals(t):
+    """W-208: 20 of lists on both sides of its edges, most of them without an effect, for a batch of nothing too; of every other
+    season and of none; after the state's checks, 11 and 12, and before 13, 14 and 15."""
+    t.use(hourly())
+    for lists in RISING + NOT_RISING + IN_BOTH:
+        t.on(*lists)
+        t.step_on(20)
+        if lists not in RISING:
+            t.batch_on([], 1)
+    for lists in NOT_RISING[:4] + IN_BOTH[:1]:
+        t.on(*lists)
+        t.everything_on()
+    t.on([], [])
+    for x in (nominal(0), nominal(1), nominal(4), nominal(6, 23), nominal(5, 48)):
+        t.use(x)
+        t.step_on(20)
+    for x in (nominal(2), nominal(5, 3), nominal(6, 25)):
+        t.use(x)
+        t.everything_on()
+        t.batch_on([], 0)
+    t.use(replace(nominal(6, 25), p=2))
+    for lists in ([5000], []), ([], [5000]):
+        t.on(*lists)
+        t.step_on(20)
+        t.forecasts_on(3, 3)
+    for x, lists in (hourly(), ([5000], [])), (hourly(), ([5000], [5000])), (nominal(6, 25), ([], [])):
+        t.use(x)
+        t.on(*lists)
+        for y in (1_000_001, f.SENTINEL):
+            t.step_on(y)
+        for readings, room in ([1_000_001], 0), ([1_000_001], 1), ([20], 0), ([], 0):
+            t.batch_on(readings, room)
+        for h in (0, 513, WORD32):
+            t.forecast_on(h)
+            t.forecasts_on(h, 0)
+        for room in (0, 2, 3):
+            t.forecasts_on(3, room)
+        for y in (replace(x, count=C), replace(x, l=V, b=V)):
+            t.use(y)
+            t.step_on(0)
+            t.missing_on()
+            t.batch_on([0], 1)
+            t.batch_on([f.SENTINEL], 1)
+
+
+def calendar_batches(t):
+    """W-208: batches that meet changes at several of their readings, missing ones among them; with counts that have passed, that
+    are not due and that are beyond them; halted beside a change by 13, 14 and 15."""
+    mark = f.SENTINEL
+    for x in (hourly(4), hourly(6, p=22), hourly(0x45, p=3)):
+        t.use(x)
+        for changes in ("s", "r", "sr-rs", "-rrrs", "ssss"):
+            skipped, repeated = calendar(x, changes)
+            t.on(skipped, repeated)
+            t.batch_on([mark if k % 11 == 7 else 15 + (k * k) % 13 for k in range(110)], 110)
+            t.on([*range(40), *skipped, 6000, WORD64], [*range(100, 140), *repeated, 6001, WORD64 - 1])
+            t.batch_on([mark if k % 5 == 0 else 22 - k % 7 for k in range(50)], 52)
+    for changes in ("s", "r", "rr", "rs", "rrs"):
+        t.use(hourly())
+        t.on(*calendar(t.state, changes))
+        for readings in ([20, 25, 21, 22], [mark, 20, mark, 21], [20, mark, mark, 21]):
+            t.batch_on(readings, 5)
+    for changes in ("s", "r"):
+        x = hourly(p=1)
+        t.use(x)
+        t.on(*calendar(x, changes))
+        for at in range(4):
+            readings = [20, 25, mark, 23]
+            readings[at] = 1_000_001 if at % 2 else -1_000_001
+            t.batch_on(readings, 5)
+        for left in range(4):
+            t.use(replace(x, count=C - left))
+            t.on(*calendar(t.state, changes))
+            t.batch_on([20, mark, 21], 4)
+            t.batch_on([mark, 20, 1_000_001], 3)
+        # Half of V + 65536 is added to the half of a season value: at V it leaves its range, and 0 does not.
+        for place in (2, 3):
+            t.use(State(model=4, m=24, G=32768, l=-V, s=cells(*[V if k == place else 0 for k in range(24)]), p=2))
+            t.on(*calendar(t.state, changes))
+            t.step_on(1)
+            t.batch_on([1, 1, 1], 3)
+            t.batch_on([mark, 1, 1], 3)
+    for changes in ("s", "r"):
+        # The trend carries the level out after some readings, and missing ones.
+        t.use(State(model=5, m=24, F=65536, l=V - 2000, b=1000, p=1))
+        t.on(*calendar(t.state, changes))
+        t.batch_on([mark] * 5, 5)
+        t.batch_on([0] * 5, 6)
+
+
+def calendar_forecasts(t):
+    """W-208: forecasts whose walk meets changes up to the last horizon; by lists of 64 counts, of which the first, the last or all
+    have an effect; with cells too few, just enough and more; at counts beyond 2^48."""
+    for x in (hourly(4), hourly(6, p=5), hourly(0x46, p=1)):
+        t.use(x)
+        for changes in ("sr-" * 8, "r" * 64, "s" * 23):
+            t.on(*calendar(x, changes))
+            t.forecasts_on(512, 512)
+            for h in (2, 25, 512):
+                t.forecast_on(h)
+    t.use(hourly())
+    for lists in (range(5000, 5064), []), ([], range(5000, 5064)), (range(4937, 5001), range(5001, 5065)), (range(5001, 5065), range(4937, 5001)):
+        t.on(*lists)
+        for h, room in (1, 1), (70, 70), (60, 62), (60, 59):
+            t.forecasts_on(h, room)
+    for count, changes in (C - 1, "srs"), (C, "rsr"):
+        t.use(hourly(p=1, count=count))
+        t.on(*calendar(t.state, changes))
+        t.everything_on()
+        t.forecasts_on(80, 80)
+        t.forecast_on(512)
+
+
+WINDOWS = [(0, 0), (23, 23), (6, 9), (22, 6), (2, 3), (3, 4), (3, 2), (1, 0), (23, 0), (0, 23), (2, 4)]
+
+
+def windows(t):
+    """W-208: windows of every kind, from places beside the change, with one and without; those that no step is in; bounds at 23 and
+    above; the largest first, last and among equals, all below 0, and the largest of all."""
+    for p in (0, 2, 23):
+        t.use(hourly(p=p))
+        for changes in ("", "s", "r"):
+            t.on(*calendar(t.state, changes))
+            for window in WINDOWS:
+                t.window(*window)
+    for start, end in (24, 0), (0, 24), (24, 24), (23, 24), (24, 23), (128, 3), (3, 128), (255, 255):
+        t.window(start, end)
+    for changes in ("ss", "r" * 23, "r" * 24, "rs"):
+        t.use(hourly())
+        t.on(*calendar(t.state, changes))
+        for window in (2, 3), (3, 4), (3, 2), (23, 0), (0, 2):
+            t.window(*window)
+    t.on([5000], [5000])
+    for window in (0, 0), (2, 3), (24, 0):
+        t.window(*window)
+    flat = State(model=5, m=24, F=65536, p=20, count=5000)
+    sloping = [replace(flat, l=l, b=b) for l, b in ((0, 65536), (0, -65536), (0, 0), (-V, 1000), (-V, -1000))]
+    # Odd trends damped by a half are ties, by both rules.
+    damped = [replace(hourly(model, 17), F=32768, b=-12_345) for model in (6, 0x46, 0x0E)]
+    for x in (*sloping, *damped, hourly(4, 17), hourly(0x4D, 17)):
+        t.use(x)
+        for changes in ("s", "r"):
+            t.on(*calendar(x, changes))
+            for window in (0, 0), (22, 6):
+                t.window(*window)
+    for end in (V, -V):
+        t.use(State(model=5, m=24, F=65536, l=end, b=end, s=cells(*[end] * 24), p=2, count=C))
+        t.on(*calendar(t.state, "r"))
+        for window in (0, 0), (2, 3):
+            t.window(*window)
+        t.forecast_on(512)
+
+
 def script():
     t = Script()
-    for part in (refused_states, first_fault, steps, batches, horizons, weights_by_index, relative_variances, relative_errors, coefficients, groups, outside_region, rules, scores, lent):
+    for part in (refused_states, first_fault, steps, batches, horizons, weights_by_index, relative_variances, relative_errors, coefficients, groups, outside_region, rules, scores, lent, clock_changes, calendar_refusals, calendar_batches, calendar_forecasts, windows):
         part(t)
     return t
 

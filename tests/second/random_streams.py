@@ -52,11 +52,11 @@ def score(rng, x):
     return scored(x, n, min(max(total, 0), most))
 
 
-def state(rng):
-    """A state that passes the checks."""
-    model = rng.choice(MODELS)
+def state(rng, hourly=False):
+    """A state that passes the checks; `hourly`, one with 24 places."""
+    model = rng.choice([4, 5, 6] if hourly else MODELS)
     trend, seasonal = model & 3, model & 4 != 0
-    m = rng.choice([2, 3, rng.randint(2, 12), 24, 48]) if seasonal else 0
+    m = f.HOURS if hourly else rng.choice([2, 3, rng.randint(2, 12), 24, 48]) if seasonal else 0
     limit = rng.choice([10, 2**20, 2**27, V])
     s = [signed(rng, limit) for _ in range(m)] + [0] * (f.CELLS - m)
     gains = (parameter(rng), parameter(rng) if trend else 0, parameter(rng) if seasonal else 0)

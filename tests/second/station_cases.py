@@ -1,5 +1,5 @@
 """Document 01's station cases T1 to T12, T1 by the other rounding rule (W-211), the score of T5 and T6 and in their groups
-(W-204), and T3 and T5 with relative errors (W-205), of the second implementation."""
+(W-204), T3 and T5 with relative errors (W-205), and clock changes (W-208), of the second implementation."""
 
 from dataclasses import replace
 
@@ -56,4 +56,17 @@ def hold():
     yield "T10", [code(f.step, first, y) for y in (1_000_000, 1_000_001)] == [0, 13]
     yield "T11 level", [code(f.check, State(l=l)) for l in (2**40, 2**40 + 1)] == [0, 9]
     yield "T11 horizon", [code(f.forecast, first, h) for h in (512, 0, 513)] == [0, 11, 11]
+    # By hand: the level is 0 and the value at a place its number in units. Each reading is 5: e is 2 at place 3 and 3 at place 2.
+    hourly = State(model=4, m=24, A=16384, G=32768, s=cells(*[65536 * k for k in range(24)]), p=2, count=7)
+    skip, again = f.step_on(hourly, [7], [], 5)[0], f.step_on(hourly, [], [7], 5)[0]
+    yield "W-208, skipped", (skip.l, skip.s[2:4], skip.p, skip.count) == (32768, (131072, 262144), 4, 8)
+    yield "W-208, used again", (again.l, again.s[2:4], again.p, again.count) == (49152, (229376, 196608), 2, 8)
+    yield "W-208, without effect", [f.step_on(replace(hourly, p=p), [7], [8], 5) == f.step(replace(hourly, p=p), 5) for p in (1, 3, 23)] == [True] * 3
+    yield "W-208, places", [f.places(replace(hourly, p=1, count=6), *lists, 5) for lists in (([7], []), ([], [7]), ([8], [7]), ([8], []))] == [
+        [1, 3, 4, 5, 6], [1, 2, 2, 3, 4], [1, 2, 3, 4, 5], [1, 2, 3, 4, 5]
+    ]  # fmt: skip
+    yield "W-208, windows", [f.window_maximum(hourly, [7], [], *window) >> 16 for window in ((2, 3), (2, 4), (22, 2), (9, 9), (1, 0))] == [2, 3, 23, 23, 23]
+    yield "20, a list", [code(f.missing_on, hourly, *lists) for lists in (([7], [8]), ([7, 7], []), ([], [8, 7]), ([7], [7]))] == [0, 20, 20, 20]
+    yield "20, another season", [code(f.missing_on, x, [], []) for x in (first, seasonal)] == [20, 20]
+    yield "20, a window", [code(f.window_maximum, hourly, [7, 30], [], *window) for window in ((2, 3), (2, 4), (24, 0), (0, 24))] == [20, 0, 20, 20]
     yield "T12", code(f.step, State(model=1, F=65536, l=2**40, b=2**40), 1_000_000) == 15

@@ -186,6 +186,6 @@ def second_file(folder):
 
 @case("mistake: an unknown option")
 def unknown_option(folder):
-    for name in ("stream", "run", "series", "plot"):
+    for name in ("stream", "run", "series", "plot", "changes"):
         ended = tool(name, folder, "--loud", "a", "b")
         same((ended.status, ended.out), (2, b""), "status and output")

@@ -36,6 +36,7 @@ REJECTIONS = {
     17: "the score has more readings than the count, or a sum above its readings times 2^52",
     18: "the variance of the relative residuals is not a number from 0 to 1",
     19: "the variance, or a number on the way to it, is too large for a double",
+    20: "a list of step counts does not rise or shares a count, a window is not valid or has no step, or the season length is not 24",
 }
 TOO_LONG = 1  # the refusal that names no command
 

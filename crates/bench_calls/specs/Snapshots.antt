@@ -3,9 +3,12 @@ use Prim.Native.Nat.{ℕ}
 use mathlib.Core.List.{List}
 use lib.IntN.{ℤ}
 use lib.Ieee.{Float}
+use Rattle.calendars.specs.Calendars.{Calendar}
 use Rattle.state.specs.Rejections.{_then_, accepting, outcomeCode}
 use Rattle.ets.specs.Batches.{batch, batchLevels}
+use Rattle.ets.specs.Calendars.{batchOn, batchLevelsOn}
 use Rattle.forecasts.specs.Forecasts.{forecastsCode, forecastCells}
+use Rattle.forecasts.specs.Calendars.{forecastsCodeOn, forecastCellsOn}
 use Rattle.snapshot.specs.Snapshots.{decoded}
 use Rattle.snapshot.specs.Slices.{inPlaceCode}
 use Rattle.weights.specs.Weights.{weight, weightCode, weightValue}
@@ -22,12 +25,29 @@ batchTaken d ys room = accepting (inPlaceCode d) (batch (decoded d) ys room .tak
 unfoldable pub batchCells : List ℕ → List ℤ → List ℤ → List ℤ
 batchCells d ys cells = accepting (inPlaceCode d) (batchLevels (decoded d) ys cells) (λ (n : ℕ). cells)
 
+-- the same by two lists of clock changes
+unfoldable pub batchOnCode : List ℕ → Calendar → List ℤ → ℕ → ℕ
+batchOnCode d k ys room = inPlaceCode d then outcomeCode (batchOn k (decoded d) ys room .outcome)
+
+unfoldable pub batchOnTaken : List ℕ → Calendar → List ℤ → ℕ → ℕ
+batchOnTaken d k ys room = accepting (inPlaceCode d) (batchOn k (decoded d) ys room .taken) (λ (n : ℕ). 0)
+
+unfoldable pub batchOnCells : List ℕ → Calendar → List ℤ → List ℤ → List ℤ
+batchOnCells d k ys cells = accepting (inPlaceCode d) (batchLevelsOn k (decoded d) ys cells) (λ (n : ℕ). cells)
+
 -- all horizons: the number returned and the cells
 unfoldable pub allCode : List ℕ → ℕ → ℕ → ℕ
 allCode d h room = inPlaceCode d then forecastsCode (decoded d) h room
 
 unfoldable pub allCells : List ℕ → ℕ → List ℤ → List ℤ
 allCells d h cells = accepting (inPlaceCode d) (forecastCells (decoded d) h cells) (λ (n : ℕ). cells)
+
+-- the same by two lists of clock changes
+unfoldable pub allOnCode : List ℕ → Calendar → ℕ → ℕ → ℕ
+allOnCode d k h room = inPlaceCode d then forecastsCodeOn k (decoded d) h room
+
+unfoldable pub allOnCells : List ℕ → Calendar → ℕ → List ℤ → List ℤ
+allOnCells d k h cells = accepting (inPlaceCode d) (forecastCellsOn k (decoded d) h cells) (λ (n : ℕ). cells)
 
 -- a weight: the number returned, and the lent number, as found where it is rejected
 unfoldable pub inPlaceWeightCode : List ℕ → ℕ → ℕ

@@ -1,6 +1,8 @@
 // Entry points of the benchmark: calls that the station's C interface does not have, on a lent slice that holds one snapshot.
 // Each returns the rejection's number or 0, as the station's calls do; a rejected call leaves the cells and the lent weight as found.
 use ets::batches::batch;
+use ets::batches::batch_on;
+use forecasts::changes::forecasts_on;
 use forecasts::forecasts;
 use relative::RelativeVariance;
 use relative::relative_variance;
@@ -11,7 +13,8 @@ use weights::groups::weight_groups;
 use weights::variances::weight;
 ghost use mathlib.Core.Path.{_≡_};
 ghost use lib.ListN.{length};
-ghost use Rattle.bench_calls.specs.Snapshots.{batchCode, batchTaken, batchCells, allCode, allCells, inPlaceWeightCode, inPlaceWeight, inPlaceGroupsCode, inPlaceGroupCells, inPlaceRelativeCode, inPlaceRelativeValue, inPlaceRelativeCells};
+ghost use Rattle.calendars.specs.Calendars.{calendarOf};
+ghost use Rattle.bench_calls.specs.Snapshots.{batchCode, batchTaken, batchCells, batchOnCode, batchOnTaken, batchOnCells, allCode, allCells, allOnCode, allOnCells, inPlaceWeightCode, inPlaceWeight, inPlaceGroupsCode, inPlaceGroupCells, inPlaceRelativeCode, inPlaceRelativeValue, inPlaceRelativeCells};
 
 // The readings taken are told in every case: 0 where a check before the first of them stops the batch.
 #[no_mangle]
@@ -40,6 +43,35 @@ pub extern "C" fn bench_batch(
     code_of(end)
 }
 
+// The same by two lists of clock changes (W-208).
+#[no_mangle]
+pub extern "C" fn bench_batch_on(
+    snapshot: &[u8],
+    skipped: &[u64],
+    repeated: &[u64],
+    readings: &[i32],
+    levels: &mut [i64],
+    taken: &mut usize,
+) -> u8
+    ensures code { λ r. ⌜ r ≡ batchOnCode (now (snapshot .entry)) (calendarOf (now (skipped .entry)) (now (repeated .entry))) (now (readings .entry)) (length (now (levels .entry))) ⌝ }
+    ensures number { λ _. ⌜ now (taken .exit) ≡ batchOnTaken (now (snapshot .entry)) (calendarOf (now (skipped .entry)) (now (repeated .entry))) (now (readings .entry)) (length (now (levels .entry))) ⌝ }
+    ensures buffer { λ _. ⌜ now (levels .exit) ≡ batchOnCells (now (snapshot .entry)) (calendarOf (now (skipped .entry)) (now (repeated .entry))) (now (readings .entry)) (now (levels .entry)) ⌝ }
+{
+    let opened = read(snapshot);
+    let outcome = opened.outcome;
+    let code = code_of(outcome);
+    if code != 0 {
+        *taken = 0;
+        return code;
+    }
+    let state = opened.state;
+    let done = batch_on(state, skipped, repeated, readings, levels);
+    let count = done.taken;
+    *taken = count;
+    let end = done.outcome;
+    code_of(end)
+}
+
 #[no_mangle]
 pub extern "C" fn bench_forecasts(snapshot: &[u8], horizon: u32, values: &mut [i64]) -> u8
     ensures code { λ r. ⌜ r ≡ allCode (now (snapshot .entry)) horizon (length (now (values .entry))) ⌝ }
@@ -53,6 +85,28 @@ pub extern "C" fn bench_forecasts(snapshot: &[u8], horizon: u32, values: &mut [i
     }
     let state = opened.state;
     code_of(forecasts(state, horizon, values))
+}
+
+// The same by two lists of clock changes (W-208).
+#[no_mangle]
+pub extern "C" fn bench_forecasts_on(
+    snapshot: &[u8],
+    skipped: &[u64],
+    repeated: &[u64],
+    horizon: u32,
+    values: &mut [i64],
+) -> u8
+    ensures code { λ r. ⌜ r ≡ allOnCode (now (snapshot .entry)) (calendarOf (now (skipped .entry)) (now (repeated .entry))) horizon (length (now (values .entry))) ⌝ }
+    ensures buffer { λ _. ⌜ now (values .exit) ≡ allOnCells (now (snapshot .entry)) (calendarOf (now (skipped .entry)) (now (repeated .entry))) horizon (now (values .entry)) ⌝ }
+{
+    let opened = read(snapshot);
+    let outcome = opened.outcome;
+    let code = code_of(outcome);
+    if code != 0 {
+        return code;
+    }
+    let state = opened.state;
+    code_of(forecasts_on(state, skipped, repeated, horizon, values))
 }
 
 #[no_mangle]

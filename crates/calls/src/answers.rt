@@ -1,4 +1,5 @@
 // The calls, and what each answers: a rejection's number or 0, and then what the call gives.
+use super::changes;
 use super::input::first_bytes;
 use super::input::first_doubles;
 use super::input::first_numbers;
@@ -27,14 +28,14 @@ use state::State;
 use weights::Variance;
 use weights::Weight;
 
-fn print_outcome(outcome: Outcome) {
+pub fn print_outcome(outcome: Outcome) {
     match outcome {
         Outcome::Accepted => print_code(0),
         Outcome::Rejected(code) => print_code(code),
     }
 }
 
-fn print_answer(answer: Answer) {
+pub fn print_answer(answer: Answer) {
     match answer {
         Answer::Accepted(v) => {
             print_code(0);
@@ -180,6 +181,10 @@ fn play_read() {
 
 // Makes the call of an operation, and prints what it answers.
 pub fn play(operation: u8) {
+    if 18 <= operation {
+        changes::play(operation, next_state());
+        return;
+    }
     match operation {
         1 => play_read(),
         2 => print_code(state::checks::check(next_state())),

@@ -114,6 +114,19 @@ pub fn next_readings<'a>(space: &'a mut [i32], n: usize) -> &'a mut [i32] {
     &mut space[..i]
 }
 
+// So many step counts, or as many as there is room for.
+pub fn next_counts<'a>(space: &'a mut [u64], n: usize) -> &'a mut [u64] {
+    let mut i = 0;
+    while i < n {
+        if space.len() <= i {
+            return space;
+        }
+        space[i] = next_u64();
+        i += 1;
+    }
+    &mut space[..i]
+}
+
 fn next_score() -> Score {
     Score {
         readings: next_u64(),

@@ -1,5 +1,6 @@
 // Plays calls that no stream reaches: the records on standard input, as tests/second/calls.py writes them.
 mod answers;
+mod changes;
 mod input;
 mod printing;
 

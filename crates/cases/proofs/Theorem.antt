@@ -4,7 +4,8 @@ use Rattle.state.specs.Fixed.{R, share}
 use Rattle.integers.specs.Below.{allBelow}
 use Rattle.state.specs.Scores.{sumOf, sumOk}
 use Rattle.state.specs.States.{check, parametersCode}
-use Rattle.ets.specs.Steps.{dampedTrend, seasonDue, residual, newLevel, newTrend, newSeason, newSeasonal, squareOf, scoreAfter, nextIndex, advanced, missingCode, stepCode, step, missing}
+use Rattle.calendars.specs.Turns.{nextIndex}
+use Rattle.ets.specs.Steps.{dampedTrend, seasonBy, residual, newLevel, newTrend, newSeason, seasonalBy, squareOf, scoreAfter, advanced, missingCode, stepCodeBy, step, missing}
 use Rattle.forecasts.specs.Forecasts.{trendAt, trendLine, seasonAt, forecastOf, forecastCodeTo, forecastTo}
 use Rattle.weights.specs.Weights.{dampingSum, trendTerm, seasonTerm, coefficient, squares, weightOf, errorsCode, weight, variance}
 use Rattle.weights.specs.Groups.{groupSum, firstGroups, weightGroupsCode, weightGroupCells}
@@ -15,7 +16,7 @@ _and_ : {A B : Type 0} → A → B → A × B
 a and b = (a, b)
 
 pub all-rows : Every table
-unfolding Every R share allBelow sumOf sumOk check parametersCode dampedTrend seasonDue residual newLevel newTrend newSeason newSeasonal squareOf scoreAfter nextIndex advanced missingCode stepCode step missing trendAt trendLine seasonAt forecastOf forecastCodeTo forecastTo dampingSum trendTerm seasonTerm coefficient squares weightOf errorsCode weight variance groupSum firstGroups weightGroupsCode weightGroupCells table
+unfolding Every R share allBelow sumOf sumOk check parametersCode dampedTrend seasonBy residual newLevel newTrend newSeason seasonalBy squareOf scoreAfter nextIndex advanced missingCode stepCodeBy step missing trendAt trendLine seasonAt forecastOf forecastCodeTo forecastTo dampingSum trendTerm seasonTerm coefficient squares weightOf errorsCode weight variance groupSum firstGroups weightGroupsCode weightGroupCells table
 all-rows =
     -- T1
     refl and refl and refl and refl

@@ -13,8 +13,9 @@ use Rattle.models.specs.Models.{trendOf, hasSeason}
 use Rattle.state.specs.Scores.{noScore, sumOf, sumOk}
 use Rattle.state.specs.States.{stateOf, check, parametersCode}
 use Rattle.state.specs.Switching.{switched, switchToEven}
-use Rattle.ets.specs.Steps.{dampedTrend, seasonDue, newLevel, newTrend, newSeason, newSeasonal, squareOf, scoreAfter, nextIndex, stepCode, advanced, missingCode, step, missing, residual}
-use Rattle.ets.specs.Batches.{takeCode, afterTake, run, batchRun, batch, batchLevels}
+use Rattle.calendars.specs.Turns.{nextIndex}
+use Rattle.ets.specs.Steps.{dampedTrend, seasonBy, newLevel, newTrend, newSeason, seasonalBy, squareOf, scoreAfter, stepCodeBy, advanced, missingCode, step, missing, residual}
+use Rattle.ets.specs.Batches.{takeCodeBy, afterTakeBy, runBy, batchRun, batch, batchLevels}
 use Rattle.forecasts.specs.Forecasts.{trendAt, trendLine, seasonAt, forecastOf, forecastList, forecastTo, forecastCellsTo, forecastsTo, forecastCodeTo, forecastsCodeTo}
 use Rattle.layout.specs.Bytes.{fromBytes}
 use Rattle.layout.specs.CommandTable.{commandSize, isCommand}
@@ -23,7 +24,7 @@ use Rattle.snapshot.specs.Slices.{inPlaceCode}
 use Rattle.saving.specs.Encoding.{toBytes, modelBytes, levelBytes, scoreBytes, seasonBytes, seasonsBytes, positionBytes, encoded}
 use Rattle.saving.specs.InPlace.{inPlaceStepCode, inPlaceStepBytes, inPlaceMissingCode, inPlaceMissingBytes, inPlaceSwitchBytes, inPlaceForecastCode, inPlaceForecast}
 use Rattle.traces.specs.Calls.{result, after}
-use Rattle.drift.specs.Exact.{parametersOf, exactDamped, exactResidual, adjusted, exactSeason, exactTake, exactBatch, exactTrendAt, exactLine, exactForecast, exactAfter, expectedLevels, expectedForecasts, expected}
+use Rattle.drift.specs.Exact.{parametersOf, exactDamped, exactResidualBy, adjusted, exactSeasonBy, exactTakeBy, exactBatchBy, exactTrendAt, exactLine, exactForecast, exactAfter, expectedLevelsBy, upTo, expected}
 use Rattle.drift.specs.Limits.{AtMost, AllWithin}
 use Rattle.drift.specs.Pins.{beside, compared}
 use Rattle.drift.proofs.Runs.{first}
@@ -32,7 +33,7 @@ use Rattle.damped.specs.Pins.{Refused, apart, rising, Attained, readings
 use Rattle.damped.proofs.Damped.{one-step-forecasts}
 
 refused : Refused
-unfolding AllWithin AtMost WithinOneStep result check parametersCode allBelow sumOf sumOk R share dampedTrend seasonDue residual newLevel newTrend newSeason newSeasonal squareOf scoreAfter nextIndex stepCode step trendAt trendLine seasonAt forecastOf forecastCodeTo forecastTo forecastList forecastsCodeTo forecastsTo forecastCellsTo fromBytes toBytes commandSize isCommand dueCode modelCode levelCode scoreCode seasonCode scanSeasons positionCode scan cellsAt decoded modelBytes levelBytes scoreBytes seasonBytes seasonsBytes positionBytes encoded inPlaceCode inPlaceForecastCode inPlaceForecast inPlaceSwitchBytes switchToEven exactDamped exactResidual adjusted exactSeason exactTrendAt exactLine exactForecast expectedForecasts exactAfter expected
+unfolding AllWithin AtMost WithinOneStep result check parametersCode allBelow sumOf sumOk R share dampedTrend seasonBy residual newLevel newTrend newSeason seasonalBy squareOf scoreAfter nextIndex stepCodeBy step trendAt trendLine seasonAt forecastOf forecastCodeTo forecastTo forecastList forecastsCodeTo forecastsTo forecastCellsTo fromBytes toBytes commandSize isCommand dueCode modelCode levelCode scoreCode seasonCode scanSeasons positionCode scan cellsAt decoded modelBytes levelBytes scoreBytes seasonBytes seasonsBytes positionBytes encoded inPlaceCode inPlaceForecastCode inPlaceForecast inPlaceSwitchBytes switchToEven exactDamped exactResidualBy adjusted exactSeasonBy exactTrendAt exactLine exactForecast upTo exactAfter expected
 refused =
     record {
       forecast = λ h. le→leb _ _ (first (h .0) refl refl);
@@ -47,7 +48,7 @@ refused =
     }
 
 attained : Attained
-unfolding apart rising after beside result check parametersCode allBelow sumOf sumOk R share dampedTrend seasonDue residual newLevel newTrend newSeason newSeasonal squareOf scoreAfter nextIndex stepCode step switchToEven trendAt trendLine seasonAt forecastOf exactDamped exactResidual adjusted exactSeason exactTrendAt exactLine exactForecast exactAfter
+unfolding apart rising after beside result check parametersCode allBelow sumOf sumOk R share dampedTrend seasonBy residual newLevel newTrend newSeason seasonalBy squareOf scoreAfter nextIndex stepCodeBy step switchToEven trendAt trendLine seasonAt forecastOf exactDamped exactResidualBy adjusted exactSeasonBy exactTrendAt exactLine exactForecast exactAfter
 attained = record { near = leb→le _ _ tt; near-even = leb→le _ _ tt; near-across = leb→le _ _ tt; beyond-half = leb→le _ _ tt }
 
 -- what the types of a state of the pins hold; the rest is computed
@@ -63,7 +64,7 @@ opens outside model A B F l b count passes damped seasonless gains margin =
     }
 
 needed : Needed
-unfolding AtMost WithinOneStep rising readings after beside result check parametersCode allBelow sumOf sumOk R share dampedTrend seasonDue residual newLevel newTrend newSeason newSeasonal squareOf scoreAfter nextIndex stepCode step advanced missingCode missing trendAt trendLine seasonAt forecastOf exactDamped exactResidual adjusted exactSeason exactTrendAt exactLine exactForecast exactAfter
+unfolding AtMost WithinOneStep rising readings after beside result check parametersCode allBelow sumOf sumOk R share dampedTrend seasonBy residual newLevel newTrend newSeason seasonalBy squareOf scoreAfter nextIndex stepCodeBy step advanced missingCode missing trendAt trendLine seasonAt forecastOf exactDamped exactResidualBy adjusted exactSeasonBy exactTrendAt exactLine exactForecast exactAfter
 needed =
     record {
       missing = (opens _ _ _ _ _ _ _ _ refl refl refl (leb→le _ _ tt) (record { lt = tt }), λ h. le→leb _ _ h);
@@ -87,7 +88,7 @@ unfolding check parametersCode allBelow sumOf sumOk
 opens-relative = opens _ _ _ _ _ _ _ _ refl refl refl (leb→le _ _ tt) (record { lt = tt })
 
 shown : Shown
-unfolding compared calls after result switchToEven inPlaceSwitchBytes check parametersCode allBelow sumOf sumOk R share dampedTrend seasonDue residual newLevel newTrend newSeason newSeasonal squareOf scoreAfter nextIndex stepCode advanced missingCode step missing takeCode afterTake run batchRun batch batchLevels trendAt trendLine seasonAt forecastOf forecastCodeTo forecastTo forecastList forecastsCodeTo forecastsTo forecastCellsTo fromBytes toBytes commandSize isCommand dueCode modelCode levelCode scoreCode seasonCode scanSeasons positionCode scan cellsAt decoded modelBytes levelBytes scoreBytes seasonBytes seasonsBytes positionBytes encoded inPlaceCode inPlaceStepCode inPlaceStepBytes inPlaceMissingCode inPlaceMissingBytes inPlaceForecastCode inPlaceForecast exactDamped exactResidual adjusted exactSeason exactTake exactBatch exactTrendAt exactLine exactForecast exactAfter expectedLevels expectedForecasts expected
+unfolding compared calls after result switchToEven inPlaceSwitchBytes check parametersCode allBelow sumOf sumOk R share dampedTrend seasonBy residual newLevel newTrend newSeason seasonalBy squareOf scoreAfter nextIndex stepCodeBy advanced missingCode step missing takeCodeBy afterTakeBy runBy batchRun batch batchLevels trendAt trendLine seasonAt forecastOf forecastCodeTo forecastTo forecastList forecastsCodeTo forecastsTo forecastCellsTo fromBytes toBytes commandSize isCommand dueCode modelCode levelCode scoreCode seasonCode scanSeasons positionCode scan cellsAt decoded modelBytes levelBytes scoreBytes seasonBytes seasonsBytes positionBytes encoded inPlaceCode inPlaceStepCode inPlaceStepBytes inPlaceMissingCode inPlaceMissingBytes inPlaceForecastCode inPlaceForecast exactDamped exactResidualBy adjusted exactSeasonBy exactTakeBy exactBatchBy exactTrendAt exactLine exactForecast exactAfter expectedLevelsBy upTo expected
 shown = record { opens = opens-late; opens-even = opens-even; opens-relative = opens-relative; holds = one-step-forecasts opening opens-late calls; rule-after = refl; compares = refl }
 
 pub pins : Pins

@@ -1,17 +1,19 @@
 -- W-207: from any state of a damped model without season that meets the conditions, every list of calls has its one-step forecasts within 1/K.
-use mathlib.Core.Path.{_≡_, refl, _∙_, subst}
+use mathlib.Core.Path.{_≡_, refl, _∙_, ap, subst}
+use mathlib.Core.Bool.{false}
 use Prim.Native.Nat.{ℕ}
 use native.Mathlib.Omega.{arith}
 use lib.IntN.{ℤ, pos}
+use Rattle.models.specs.Models.{hasSeason}
 use Rattle.state.specs.Switching.{switched}
 use Rattle.state.specs.declared.State.{State}
-use Rattle.state.proofs.Passing.{bounded}
+use Rattle.state.proofs.Passing.{bounded, no-season}
 use Rattle.state.proofs.Switches.{switch-law}
 use Rattle.ets.specs.Steps.{stepCode, missingCode, afterReading, afterMissing}
 use Rattle.ets.proofs.Kept.{reading-typed, reading-kept, missing-kept}
 use Rattle.forecasts.specs.Forecasts.{forecastOf}
 use Rattle.traces.specs.Laws.{Passing}
-use Rattle.drift.specs.Exact.{Parameters, parametersOf, Exact, opened, exactReading, exactMissing, exactSeason, expectedForecast}
+use Rattle.drift.specs.Exact.{Parameters, parametersOf, Exact, opened, exactReading, exactMissing, exactSeasonBy, expectedForecast}
 use Rattle.drift.proofs.StepErrors.{none-apart}
 use Rattle.drift.proofs.Runs.{Keeps, claim}
 use Rattle.damped.specs.Limits.{WithinOneStep, Opening, OneStepForecasts}
@@ -27,7 +29,7 @@ record Good (c : Parameters) (s : State) (x : Exact) : Type 0 where
 
 module _ (c : Parameters) (m : Damped c) (s : State) (x : Exact) (w : Good c s x) where
   kept-reading : (y : ℤ) → stepCode s y ≡ 0 → Good c (afterReading s y) (exactReading c x y)
-  unfolding exactSeason
+  unfolding exactSeasonBy
   kept-reading y z =
       record {
         passing = record { typed = reading-typed s y (w .passing .typed); passes = reading-kept s y (w .passing .typed .cells) z };
@@ -60,6 +62,12 @@ module _ (c : Parameters) (m : Damped c) (s : State) (x : Exact) (w : Good c s x
   one-step-within h e u =
       rw e (subst (λ (c : Parameters). Damped c → Close c s x → WithinOneStep c (forecastOf s 1) (expectedForecast c x 1)) (w .same) (λ m n. λ _ _. forecast-close s x m n u) m (w .near u) refl u)
 
+  -- without season no list is accepted: m is 0
+  no-day : s .period ≡ 24 → ⊥
+  no-day d =
+      let none : hasSeason (s .model) ≡ false = ap (λ (p : Parameters). p .seasonal) (w .same) ∙ m .seasonless in
+      omega (arith, no-season s (w .passing .passes) none .period)
+
 keeps : (c : Parameters) (m : Damped c) → Keeps c (WithinOneStep c) (Good c)
 unfolding WithinOneStep
 keeps c m =
@@ -70,6 +78,9 @@ keeps c m =
       switch = kept-switch c m;
       level = λ s x w. tt;
       forecast = one-step-within c m;
+      aligned = λ s x w d. absurd (no-day c m s x w d);
+      placing = λ s x w d p h. absurd (no-day c m s x w d);
+      walk = λ s x w k f h. absurd (no-day c m s x w (f .day));
     }
 
 -- ---- the opening state: nothing is off

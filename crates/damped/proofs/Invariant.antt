@@ -14,9 +14,9 @@ use Rattle.models.specs.Models.{tiesToEven}
 use Rattle.state.specs.Fixed.{share}
 use Rattle.state.specs.declared.State.{State}
 use Rattle.state.proofs.Rounding.{share-error}
-use Rattle.ets.specs.Steps.{dampedTrend, seasonDue, residual, residualOf, newLevel, newTrend, afterReading}
+use Rattle.ets.specs.Steps.{dampedTrend, seasonBy, residual, residualOf, newLevel, newTrend, afterReading}
 use Rattle.forecasts.specs.Forecasts.{trendAt, trendLine, seasonAt, forecastOf}
-use Rattle.drift.specs.Exact.{Parameters, parametersOf, Exact, exponent, exactDamped, exactResidual, adjusted, exactReading, exactTrendAt, exactLine, exactForecast}
+use Rattle.drift.specs.Exact.{Parameters, parametersOf, Exact, exponent, exactDamped, exactResidualBy, exactResidual, adjusted, exactReading, exactTrendAt, exactLine, exactForecast}
 use Rattle.drift.specs.Limits.{AtMost}
 use Rattle.drift.proofs.Readings.{plus-none, power, power-next}
 use Rattle.damped.specs.Limits.{scaledK, GainsWithinOne, OneStepBound}
@@ -165,11 +165,11 @@ module _ (s : State) (x : Exact) (m : Damped (parametersOf s)) (near : Close (pa
   -- ---- a reading
   module _ (y : ℤ) (bare : x .S (x .p) ≡ pos 0) where
     e-is : residualOf s y ≡ pos 65536 *ℤ y -ℤ q
-    unfolding residual seasonDue
+    unfolding residual seasonBy
     e-is = rw (d-is, m .seasonless, plus-none q (pos 0) refl)
 
     E-is : exactResidual (parametersOf s) x y ≡ pos (65536 * P) *ℤ (pos 65536 *ℤ y) -ℤ Q
-    unfolding exactResidual exactDamped
+    unfolding exactResidualBy exactDamped
     E-is = rw (exponent-is, m .trended, pow-succ' 65536 (2 * x .n)) (bare-law y Q (x .S (x .p)) (65536 * P) bare)
 
     -- what rounding adds to a gain's share of the residual

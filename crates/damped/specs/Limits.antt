@@ -26,10 +26,11 @@ GainsWithinOne c = c .alpha * 65536 + c .phi * c .beta ≤ 65536 ^ 2
 abbrev pub OneStepBound : Parameters → ℕ → ℤ → ℤ → Type 0
 OneStepBound c power z Z = AtMost (65536 ^ 3) (natAbs (scaledK c)) power z Z
 
--- a forecast for horizon 1 with no missing reading accepted before it: 1/K. Of other horizons and of levels it says nothing
+-- a forecast for horizon 1 with no missing reading accepted before it: 1/K. Of other horizons and of levels it says nothing. (No list takes effect without a season of 24
+-- places: document 02, W-208)
 unfoldable pub WithinOneStep : Parameters → ℤ → Expected → Type 0
 WithinOneStep c z (level-is L n) = Unit {0}
-WithinOneStep c z (forecast-is F h power missed) = h ≡ 1 → missed ≡ 0 → OneStepBound c power z F
+WithinOneStep c z (forecast-is F h power missed changed) = h ≡ 1 → missed ≡ 0 → OneStepBound c power z F
 
 -- the claim about a list of calls
 abbrev pub OneStepClaim : Parameters → State → Exact → List Call → Type 0

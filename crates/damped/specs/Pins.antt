@@ -168,23 +168,23 @@ pub record Shown : Type 0 where
   pub holds : ClaimOf opening (opened opening) calls
   pub rule-after : tiesToEven (after opening calls .model) ≡ true
   pub compares : compared (parametersOf opening) opening (opened opening) calls
-      ≡ (pos 104 ∷ [], forecast-is (pos 6833600) 1 1 0 ∷ [])
+      ≡ (pos 104 ∷ [], forecast-is (pos 6833600) 1 1 0 0 ∷ [])
       ∷ ([], [])
       ∷ (
         pos 130585 ∷ pos 149209 ∷ [],
-        forecast-is (pos 36756684698702745600) 1 3 0 ∷ forecast-is (pos (41998868460491808100 * 65536)) 2 4 0 ∷ [],
+        forecast-is (pos 36756684698702745600) 1 3 0 0 ∷ forecast-is (pos (41998868460491808100 * 65536)) 2 4 0 0 ∷ [],
       )
       ∷ ([], [])
       ∷ ([], [])
       ∷ ([], [])
       ∷ ([], [])
       ∷ ([], [])
-      ∷ (pos 175507 ∷ [], forecast-is (pos (3237545109043633001259100 * 65536)) 1 5 0 ∷ [])
+      ∷ (pos 175507 ∷ [], forecast-is (pos (3237545109043633001259100 * 65536)) 1 5 0 0 ∷ [])
       ∷ (pos 141947 ∷ [], level-is (pos (171603370477703455839457897600 * 65536)) 3 ∷ [])
-      ∷ (pos 146824 ∷ [], forecast-is (pos (11632636433778696536063277860153600 * 65536)) 1 7 0 ∷ [])
+      ∷ (pos 146824 ∷ [], forecast-is (pos (11632636433778696536063277860153600 * 65536)) 1 7 0 0 ∷ [])
       ∷ (pos 146824 ∷ [], level-is (pos (11632636433778696536063277860153600 * 65536)) 3 ∷ [])
       ∷ ([], [])
-      ∷ (pos 149801 ∷ [], forecast-is (pos (777813979170197570354185581164626329600 * 65536)) 1 8 1 ∷ [])
+      ∷ (pos 149801 ∷ [], forecast-is (pos (777813979170197570354185581164626329600 * 65536)) 1 8 1 0 ∷ [])
       ∷ []
 
 pub record Pins : Type 0 where

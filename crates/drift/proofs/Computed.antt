@@ -12,8 +12,9 @@ use Rattle.integers.specs.Below.{allBelow}
 use Rattle.state.specs.Scores.{sumOf, sumOk}
 use Rattle.state.specs.States.{check, parametersCode}
 use Rattle.state.specs.Switching.{switchToEven}
-use Rattle.ets.specs.Steps.{dampedTrend, seasonDue, newLevel, newTrend, newSeason, newSeasonal, squareOf, scoreAfter, nextIndex, stepCode, advanced, missingCode, step, missing, residual}
-use Rattle.ets.specs.Batches.{takeCode, afterTake, run, batchRun, batch, batchLevels}
+use Rattle.calendars.specs.Turns.{nextIndex}
+use Rattle.ets.specs.Steps.{dampedTrend, seasonBy, newLevel, newTrend, newSeason, seasonalBy, squareOf, scoreAfter, stepCodeBy, advanced, missingCode, step, missing, residual}
+use Rattle.ets.specs.Batches.{takeCodeBy, afterTakeBy, runBy, batchRun, batch, batchLevels}
 use Rattle.forecasts.specs.Forecasts.{trendAt, trendLine, seasonAt, forecastOf, forecastList, forecastTo, forecastCellsTo, forecastsTo, forecastCodeTo, forecastsCodeTo}
 use Rattle.layout.specs.Bytes.{fromBytes}
 use Rattle.layout.specs.CommandTable.{commandSize, isCommand}
@@ -22,7 +23,7 @@ use Rattle.snapshot.specs.Slices.{inPlaceCode}
 use Rattle.saving.specs.Encoding.{toBytes, modelBytes, levelBytes, scoreBytes, seasonBytes, seasonsBytes, positionBytes, encoded}
 use Rattle.saving.specs.InPlace.{inPlaceStepCode, inPlaceStepBytes, inPlaceMissingCode, inPlaceMissingBytes, inPlaceSwitchBytes, inPlaceForecastCode, inPlaceForecast}
 use Rattle.traces.specs.Calls.{result, after}
-use Rattle.drift.specs.Exact.{exactDamped, exactResidual, adjusted, exactSeason, exactTake, exactBatch, exactTrendAt, exactLine, exactForecast, exactAfter, expectedLevels, expectedForecasts, expected}
+use Rattle.drift.specs.Exact.{exactDamped, exactResidualBy, adjusted, exactSeasonBy, exactTakeBy, exactBatchBy, exactTrendAt, exactLine, exactForecast, exactAfter, expectedLevelsBy, upTo, expected}
 use Rattle.drift.specs.Limits.{AtMost, WithinLimit, AllWithin, Opening}
 use Rattle.drift.specs.Components.{StepError}
 use Rattle.drift.specs.Pins.{seasonal, damped, standing, ClaimOf, Refused, beside, creep, creepAcross, Attained, compared, falling, gaps, creeping, Needed, opening, relative, calls, Shown, Pins}
@@ -35,7 +36,7 @@ index-refused k l h =
     le→leb 2 0 (rw (getD-replicate 48 k (pos 0) (pos 0) l, eq-eqb k k refl) at (h .seasons k (omega arith)))
 
 refused : Refused
-unfolding AllWithin AtMost WithinLimit result check parametersCode allBelow sumOf sumOk R share dampedTrend seasonDue residual newLevel newTrend newSeason newSeasonal squareOf scoreAfter nextIndex stepCode takeCode afterTake run batchRun batch batchLevels trendAt trendLine seasonAt forecastOf forecastCodeTo forecastTo forecastList forecastsCodeTo forecastsTo forecastCellsTo fromBytes toBytes commandSize isCommand dueCode modelCode levelCode scoreCode seasonCode scanSeasons positionCode scan cellsAt decoded modelBytes levelBytes scoreBytes seasonBytes seasonsBytes positionBytes encoded inPlaceCode inPlaceForecastCode inPlaceForecast inPlaceSwitchBytes switchToEven exactDamped exactResidual adjusted exactSeason exactTake exactTrendAt exactLine exactForecast expectedLevels expectedForecasts exactAfter expected
+unfolding AllWithin AtMost WithinLimit result check parametersCode allBelow sumOf sumOk R share dampedTrend seasonBy residual newLevel newTrend newSeason seasonalBy squareOf scoreAfter nextIndex stepCodeBy takeCodeBy afterTakeBy runBy batchRun batch batchLevels trendAt trendLine seasonAt forecastOf forecastCodeTo forecastTo forecastList forecastsCodeTo forecastsTo forecastCellsTo fromBytes toBytes commandSize isCommand dueCode modelCode levelCode scoreCode seasonCode scanSeasons positionCode scan cellsAt decoded modelBytes levelBytes scoreBytes seasonBytes seasonsBytes positionBytes encoded inPlaceCode inPlaceForecastCode inPlaceForecast inPlaceSwitchBytes switchToEven exactDamped exactResidualBy adjusted exactSeasonBy exactTakeBy exactTrendAt exactLine exactForecast expectedLevelsBy upTo exactAfter expected
 refused =
     record {
       level-one = λ h. le→leb _ _ (h .level);
@@ -50,8 +51,8 @@ refused =
       switched = λ h. le→leb _ _ (first (h .1 .0) refl .0 refl);
       switched-in-place = λ h. le→leb _ _ (first (h .1 .0) refl .0 refl);
       carried = λ h. le→leb _ _ (first (h .1 .0) refl .0 refl);
-      season-two = λ h. le→leb _ _ (first (h .0) refl .1 refl);
-      season-three = λ h. le→leb _ _ (first (h .0) refl .1 refl);
+      season-two = λ h. le→leb _ _ (first (h .0) refl .1 refl refl);
+      season-three = λ h. le→leb _ _ (first (h .0) refl .1 refl refl);
       damped-one = λ h. le→leb _ _ h;
       damped-two = λ h. le→leb _ _ h;
       step = λ h. le→leb _ _ h;
@@ -61,11 +62,11 @@ refused =
     }
 
 attained : Attained
-unfolding creep creepAcross after beside result check parametersCode allBelow sumOf sumOk R share dampedTrend seasonDue residual newLevel newTrend newSeason newSeasonal squareOf scoreAfter nextIndex advanced stepCode step switchToEven trendAt trendLine seasonAt forecastOf exactDamped exactResidual adjusted exactSeason exactTrendAt exactLine exactForecast exactAfter
+unfolding creep creepAcross after beside result check parametersCode allBelow sumOf sumOk R share dampedTrend seasonBy residual newLevel newTrend newSeason seasonalBy squareOf scoreAfter nextIndex advanced stepCodeBy step switchToEven trendAt trendLine seasonAt forecastOf exactDamped exactResidualBy adjusted exactSeasonBy exactTrendAt exactLine exactForecast exactAfter
 attained = record { half = refl; plain-sixteen = refl; even-sixteen = refl; across = refl; step = leb→le _ _ tt; missing = refl; damped-one = refl; damped-eight = leb→le _ _ tt }
 
 needed : Needed
-unfolding AtMost WithinLimit falling gaps after beside result check parametersCode allBelow sumOf sumOk R share dampedTrend seasonDue residual newLevel newTrend newSeason newSeasonal squareOf scoreAfter nextIndex stepCode step advanced missingCode missing trendAt trendLine seasonAt forecastOf forecastCodeTo forecastTo exactDamped exactResidual adjusted exactSeason exactTrendAt exactLine exactForecast exactAfter expected
+unfolding AtMost WithinLimit falling gaps after beside result check parametersCode allBelow sumOf sumOk R share dampedTrend seasonBy residual newLevel newTrend newSeason seasonalBy squareOf scoreAfter nextIndex stepCodeBy step advanced missingCode missing trendAt trendLine seasonAt forecastOf forecastCodeTo forecastTo exactDamped exactResidualBy adjusted exactSeasonBy exactTrendAt exactLine exactForecast exactAfter expected
 needed =
     record {
       level-alone = (refl, refl, λ h. le→leb _ _ h);
@@ -88,11 +89,11 @@ unfolding check parametersCode allBelow sumOf sumOk
 opens-relative = record { typed = record { cells = refl; low = lit< tt }; passes = refl; trendless = refl }
 
 stepped : StepError (damped 0 1 (pos 0) (pos 1000000)) (pos 0)
-unfolding AtMost R share dampedTrend seasonDue residual newLevel newTrend newSeason newSeasonal squareOf scoreAfter nextIndex exactDamped exactResidual adjusted exactSeason
+unfolding AtMost R share dampedTrend seasonBy residual newLevel newTrend newSeason seasonalBy squareOf scoreAfter nextIndex exactDamped exactResidualBy adjusted exactSeasonBy
 stepped = record { level = leb→le _ _ tt; trend = leb→le _ _ tt; seasons = λ k l. absurd (omega arith) }
 
 shown : Shown
-unfolding compared calls after result switchToEven inPlaceSwitchBytes check parametersCode allBelow sumOf sumOk R share dampedTrend seasonDue residual newLevel newTrend newSeason newSeasonal squareOf scoreAfter nextIndex stepCode advanced missingCode step missing takeCode afterTake run batchRun batch batchLevels trendAt trendLine seasonAt forecastOf forecastCodeTo forecastTo forecastList forecastsCodeTo forecastsTo forecastCellsTo fromBytes toBytes commandSize isCommand dueCode modelCode levelCode scoreCode seasonCode scanSeasons positionCode scan cellsAt decoded modelBytes levelBytes scoreBytes seasonBytes seasonsBytes positionBytes encoded inPlaceCode inPlaceStepCode inPlaceStepBytes inPlaceMissingCode inPlaceMissingBytes inPlaceForecastCode inPlaceForecast exactDamped exactResidual adjusted exactSeason exactTake exactBatch exactTrendAt exactLine exactForecast exactAfter expectedLevels expectedForecasts expected
+unfolding compared calls after result switchToEven inPlaceSwitchBytes check parametersCode allBelow sumOf sumOk R share dampedTrend seasonBy residual newLevel newTrend newSeason seasonalBy squareOf scoreAfter nextIndex stepCodeBy advanced missingCode step missing takeCodeBy afterTakeBy runBy batchRun batch batchLevels trendAt trendLine seasonAt forecastOf forecastCodeTo forecastTo forecastList forecastsCodeTo forecastsTo forecastCellsTo fromBytes toBytes commandSize isCommand dueCode modelCode levelCode scoreCode seasonCode scanSeasons positionCode scan cellsAt decoded modelBytes levelBytes scoreBytes seasonBytes seasonsBytes positionBytes encoded inPlaceCode inPlaceStepCode inPlaceStepBytes inPlaceMissingCode inPlaceMissingBytes inPlaceForecastCode inPlaceForecast exactDamped exactResidualBy adjusted exactSeasonBy exactTakeBy exactBatchBy exactTrendAt exactLine exactForecast exactAfter expectedLevelsBy upTo expected
 shown = record { step = stepped; opens = opens; opens-outside = opens-outside; opens-relative = opens-relative; holds = demand3 opening opens calls; rule-before = refl; rule-after = refl; short = refl; compares = refl }
 
 pub pins : Pins

@@ -1,5 +1,5 @@
 -- From the invariant to the limits: a level, a season value, a forecast.
-use mathlib.Core.Path.{_≡_, refl, sym, ap}
+use mathlib.Core.Path.{_≡_, refl, sym, ap, ap₂}
 use mathlib.Core.Bool.{Bool, true, false, cond, false≢true}
 use Prim.Native.Nat.{ℕ, zero, suc, _+_, _*_, _-_, _%_, _^_, _≤_, _<_}
 use native.Mathlib.Nat.{mul-comm, mul-le-mul-left, le-of-mul-le-mul-left, mod-lt, le-of-lt, pow-zero, pow-suc, pow-succ', one-le-pow}
@@ -9,17 +9,21 @@ use native.Mathlib.Omega.{arith}
 use lib.IntN.{ℤ, pos, negsuc, negℤ, natAbs, _+ℤ_, _-ℤ_, _*ℤ_, zero-*ℤ}
 use lib.ListN.{getD}
 use Rattle.integers.proofs.Difference.{diff, known, sum, minus, scaled}
-use Rattle.models.specs.Models.{hasSeason}
+use Rattle.calendars.specs.Calendars.{Calendar}
+use Rattle.models.specs.Models.{hasSeason, tiesToEven}
 use Rattle.state.specs.declared.State.{State}
-use Rattle.forecasts.specs.Forecasts.{seasonAt, forecastOf}
+use Rattle.ets.proofs.CalendarLaws.{Followed}
+use Rattle.forecasts.specs.Forecasts.{trendLine, seasonAt, forecastOf}
+use Rattle.forecasts.specs.Calendars.{placeFrom, placeBy, forecastBy}
 use Rattle.drift.proofs.Averages.{D, zeroD, Same}
 use Rattle.drift.proofs.Spread.{spread-up, spread-down, more}
 use Rattle.drift.proofs.Errors.{parts, addD, err, Both}
 use Rattle.state.proofs.Passing.{no-trend, with-season}
 use Rattle.drift.proofs.Readings.{power, even, valueAt, levelErr, seasonErr}
 use Rattle.drift.proofs.ForecastErrors.{flat-line}
+use Rattle.drift.proofs.Turns.{day-seasonal, place-in}
 use Rattle.drift.proofs.Invariant.{Good}
-use Rattle.drift.specs.Exact.{Parameters, parametersOf, Exact, exactTrendAt, exactLine, exactForecast, expectedForecast}
+use Rattle.drift.specs.Exact.{Parameters, parametersOf, Exact, exponent, exactTrendAt, exactLine, exactForecast, exactForecastBy, forecast-is, expectedForecast, expectedForecastBy}
 use Rattle.drift.specs.Limits.{AtMost, HalfPerReading, PlainBound, divisor, SeasonalBound, WithinLimit}
 
 -- c |z| ≤ e where z is d
@@ -125,29 +129,23 @@ line-is c x e (suc h) =
 spread : (Q : ℕ) (l v : ℤ) → pos Q *ℤ l +ℤ pos Q *ℤ v ≡ pos Q *ℤ (l +ℤ v)
 spread Q l v = rw (known l, known v) (simp diff (omega arith))
 
-module _ (s : State) (x : Exact) (h : ℕ) (w : Good (parametersOf s) s x) where
-  at : ℕ
-  at = (s .index + h - 1) % s .period
-
+-- ---- the forecast with the season's value at a place
+module _ (s : State) (x : Exact) (w : Good (parametersOf s) s x) (at : ℕ) (inside : hasSeason (s .model) ≡ true → at < s .period) where
   f : ℤ
-  f = forecastOf s h
+  f = s .level +ℤ valueAt s at
 
   F : ℤ
   F = x .L +ℤ cond (hasSeason (s .model)) (x .S at) (pos 0)
 
-  rounded : f ≡ s .level +ℤ valueAt s at
-  unfolding at f forecastOf seasonAt
-  rounded = ap (λ (z : ℤ). z +ℤ seasonAt s h) (flat-line s (no-trend s (w .passes) (w .flat) .phi) h)
-
-  exact : exactForecast (parametersOf s) x h ≡ pos (65536 ^ h) *ℤ F
-  unfolding at F exactForecast
-  exact =
-      rw (line-is (parametersOf s) x (no-trend s (w .passes) (w .flat) .phi) h, w .index)
-      (spread (65536 ^ h) (x .L) (cond (hasSeason (s .model)) (x .S ((s .index + h - 1) % s .period)) (pos 0)))
+  exact : (h : ℕ) → exactLine (parametersOf s) x h +ℤ pos (65536 ^ h) *ℤ cond (hasSeason (s .model)) (x .S at) (pos 0) ≡ pos (65536 ^ h) *ℤ F
+  unfolding F
+  exact h =
+      rw (line-is (parametersOf s) x (no-trend s (w .passes) (w .flat) .phi) h)
+      (spread (65536 ^ h) (x .L) (cond (hasSeason (s .model)) (x .S at) (pos 0)))
 
   error : Same (err (power x) (parts f) (parts F)) (addD (levelErr s x) (err (power x) (parts (valueAt s at)) (parts (cond (hasSeason (s .model)) (x .S at) (pos 0)))))
-  unfolding F
-  error = both (power x) f (s .level) (valueAt s at) F (x .L) (cond (hasSeason (s .model)) (x .S at) (pos 0)) rounded refl
+  unfolding f F
+  error = both (power x) f (s .level) (valueAt s at) F (x .L) (cond (hasSeason (s .model)) (x .S at) (pos 0)) refl refl
 
   plain : hasSeason (s .model) ≡ false → PlainBound (parametersOf s) (2 * x .n) f F
   plain ns =
@@ -159,13 +157,12 @@ module _ (s : State) (x : Exact) (h : ℕ) (w : Good (parametersOf s) s x) where
       δ : D
       δ = levelErr s x
 
-  of-season : hasSeason (s .model) ≡ true → 0 < s .gamma → s .alpha < 65536 → x .missed ≡ 0 → SeasonalBound (parametersOf s) (2 * x .n) f F
-  unfolding at
-  of-season ss g a z =
+  of-season : hasSeason (s .model) ≡ true → 0 < s .gamma → s .alpha < 65536 → x .missed ≡ 0 → x .changed ≡ 0 → SeasonalBound (parametersOf s) (2 * x .n) f F
+  of-season ss g a z u =
       within (s .period * c + 2 * j) c (2 * x .n) f F (up′, dn′)
       (seasonal (hasSeason (s .model)) (power x) (valueAt s at) (x .S at) (err (power x) (parts f) (parts F)) (levelErr s x) ss error)
-      (more (c * up′) (c * dn′) (s .period) c j (power x) (narrow (s .gamma) (65536 - s .alpha) (s .period) (power x) up′ dn′ (spread-up 4294967296 (65536 * (65536 - s .alpha)) (65536 * s .gamma) (s .period) (power x) (s .index) (omega arith) (le-of-lt lt) (levelErr s x) (seasonErr s x) (w .cycle ss a g z) at (mod-lt (s .index + h - 1) some))))
-      (more (c * dn′) (c * up′) (s .period) c j (power x) (narrow (s .gamma) (65536 - s .alpha) (s .period) (power x) dn′ up′ (spread-down 4294967296 (65536 * (65536 - s .alpha)) (65536 * s .gamma) (s .period) (power x) (s .index) (omega arith) (le-of-lt lt) (levelErr s x) (seasonErr s x) (w .cycle ss a g z) at (mod-lt (s .index + h - 1) some))))
+      (more (c * up′) (c * dn′) (s .period) c j (power x) (narrow (s .gamma) (65536 - s .alpha) (s .period) (power x) up′ dn′ (spread-up 4294967296 (65536 * (65536 - s .alpha)) (65536 * s .gamma) (s .period) (power x) (s .index) (omega arith) (le-of-lt lt) (levelErr s x) (seasonErr s x) (w .cycle ss a g z u) at (inside ss))))
+      (more (c * dn′) (c * up′) (s .period) c j (power x) (narrow (s .gamma) (65536 - s .alpha) (s .period) (power x) dn′ up′ (spread-down 4294967296 (65536 * (65536 - s .alpha)) (65536 * s .gamma) (s .period) (power x) (s .index) (omega arith) (le-of-lt lt) (levelErr s x) (seasonErr s x) (w .cycle ss a g z u) at (inside ss))))
     where
       c : ℕ
       c = s .gamma * (65536 - s .alpha) ^ s .period
@@ -182,21 +179,37 @@ module _ (s : State) (x : Exact) (h : ℕ) (w : Good (parametersOf s) s x) where
       lt : s .index < s .period
       lt = with-season s (w .passes) ss .index
 
-      some : 0 < s .period
-      some = omega (arith, lt)
-
-  any-gain : hasSeason (s .model) ≡ true → x .missed ≡ 0 → SeasonalBound (parametersOf s) (2 * x .n) f F
-  any-gain ss z = by-gains (decLe 1 (s .gamma)) (decLe (suc (s .alpha)) 65536)
+  any-gain : hasSeason (s .model) ≡ true → x .missed ≡ 0 → x .changed ≡ 0 → SeasonalBound (parametersOf s) (2 * x .n) f F
+  any-gain ss z u = by-gains (decLe 1 (s .gamma)) (decLe (suc (s .alpha)) 65536)
     where
       by-gains : Dec (1 ≤ s .gamma) → Dec (suc (s .alpha) ≤ 65536) → SeasonalBound (parametersOf s) (2 * x .n) f F
-      by-gains (yes g) (yes a) = of-season ss (omega arith) (omega arith) z
+      by-gains (yes g) (yes a) = of-season ss (omega arith) (omega arith) z u
       by-gains (no g) d = let e : s .gamma ≡ 0 = omega arith in unlimited (parametersOf s) (2 * x .n) f F (rw e (omega arith))
       by-gains (yes g) (no a) =
           let e : 65536 - s .alpha ≡ 0 = omega arith in
           unlimited (parametersOf s) (2 * x .n) f F (rw (e, zero-power (s .period) (omega (arith, with-season s (w .passes) ss .index))) (omega arith))
 
+  -- the forecast v and the exact one, at a place q that is the same
+  close : (h : ℕ) (v : ℤ) (q : ℕ) → v ≡ f → q ≡ at → WithinLimit (parametersOf s) v (forecast-is (exactLine (parametersOf s) x h +ℤ pos (65536 ^ h) *ℤ cond (hasSeason (s .model)) (x .S q) (pos 0)) h (exponent (parametersOf s) x + h) (x .missed) (x .changed))
+  unfolding WithinLimit
+  close h v q e g z =
+      rw (e, g, exact h, even (parametersOf s) x (w .flat))
+      ((λ e. stretch 65536 (2 * s .alpha) (2 * x .n) h f F (plain e)), (λ e u. stretch _ _ (2 * x .n) h f F (any-gain e z u)))
+
+-- ---- of document 01, and by a calendar
+module _ (s : State) (x : Exact) (w : Good (parametersOf s) s x) (h : ℕ) where
+  flat-is : trendLine (tiesToEven (s .model)) (s .level) (s .phi) (s .trend) h ≡ s .level
+  flat-is = flat-line s (no-trend s (w .passes) (w .flat) .phi) h
+
   pub forecast-close : WithinLimit (parametersOf s) (forecastOf s h) (expectedForecast (parametersOf s) x h)
-  unfolding WithinLimit f
-  forecast-close z =
-      rw (exact, even (parametersOf s) x (w .flat))
-      ((λ e. stretch 65536 (2 * s .alpha) (2 * x .n) h (forecastOf s h) F (plain e)), (λ e. stretch _ _ (2 * x .n) h (forecastOf s h) F (any-gain e z)))
+  unfolding forecastOf seasonAt exactForecast f
+  forecast-close =
+      close s x w ((s .index + h - 1) % s .period) (λ e. mod-lt (s .index + h - 1) (omega (arith, with-season s (w .passes) e .index))) h (forecastOf s h) ((x .p + h - 1) % s .period) (ap (λ (z : ℤ). z +ℤ seasonAt s h) flat-is)
+      (ap (λ (p : ℕ). (p + h - 1) % s .period) (w .index))
+
+  pub walk-close : (k : Calendar) → Followed (s .period) k → WithinLimit (parametersOf s) (forecastBy k s h) (expectedForecastBy k (parametersOf s) x h)
+  unfolding forecastBy exactForecastBy f
+  walk-close k d =
+      close s x w (placeBy k s h) (λ e. place-in k s d (w .passes) h) h (forecastBy k s h) (placeFrom k (s .period) (x .p) (x .count) h)
+      (ap₂ (λ (z v : ℤ). z +ℤ v) flat-is (ap (λ (b : Bool). cond b (getD (s .seasonal) (placeBy k s h) (pos 0)) (pos 0)) (sym (day-seasonal s (w .passes) (d .day)))))
+      (ap₂ (λ (p n : ℕ). placeFrom k (s .period) p n h) (w .index) (w .count))

@@ -1,10 +1,11 @@
 -- Demand 3: from any state of a trendless model that the checks let pass, every list of calls stays within the limits.
-use mathlib.Core.Path.{_≡_, refl, ap, subst}
+use mathlib.Core.Path.{_≡_, refl, sym, ap, subst}
 use mathlib.Core.Bool.{Bool, true, false, cond}
 use Prim.Native.Nat.{ℕ, _*_, _-_, _<_}
 use native.Mathlib.Omega.{arith}
 use lib.IntN.{ℤ, pos}
 use lib.ListN.{getD}
+use Rattle.calendars.specs.Calendars.{Calendar}
 use Rattle.models.specs.Models.{hasSeason}
 use Rattle.state.specs.Switching.{switched}
 use Rattle.state.specs.declared.State.{State}
@@ -12,15 +13,17 @@ use Rattle.state.proofs.Passing.{bounded, no-season, with-season}
 use Rattle.state.proofs.Switches.{switch-law}
 use Rattle.ets.specs.Steps.{stepCode, missingCode, afterReading, afterMissing}
 use Rattle.ets.proofs.Kept.{reading-kept, missing-kept}
+use Rattle.ets.proofs.CalendarLaws.{Followed}
 use Rattle.forecasts.specs.Forecasts.{forecastOf}
-use Rattle.drift.specs.Exact.{Parameters, parametersOf, Exact, opened, exactReading, exactMissing, level-is, expectedForecast}
+use Rattle.forecasts.specs.Calendars.{forecastBy}
+use Rattle.drift.specs.Exact.{Parameters, parametersOf, Exact, opened, exactReading, exactMissing, level-is, expectedForecast, expectedForecastBy}
 use Rattle.drift.specs.Limits.{HalfPerReading, WithinLimit, StateWithin, Opening, Demand3}
 use Rattle.drift.proofs.Averages.{D, zeroD, Same}
 use Rattle.drift.proofs.Spread.{inv-start}
 use Rattle.drift.proofs.Errors.{Both}
 use Rattle.drift.proofs.Readings.{valueAt, levelErr, seasonErr}
-use Rattle.drift.proofs.Invariant.{Sized, Good, good-reading, good-missing, good-switch}
-use Rattle.drift.proofs.Distances.{level-half, value-half, forecast-close}
+use Rattle.drift.proofs.Invariant.{Sized, Good, good-reading, good-missing, good-switch, good-placed}
+use Rattle.drift.proofs.Distances.{level-half, value-half, forecast-close, walk-close}
 use Rattle.drift.proofs.Runs.{Keeps, claim}
 
 -- ---- the invariant, with the parameters that the opening state had
@@ -44,7 +47,11 @@ module _ (c : Parameters) (s : State) (x : Exact) (w : Kept c s x) where
   level-within = level-half c s x (w .1)
 
   forecast-within : (h : ℕ) → WithinLimit c (forecastOf s h) (expectedForecast c x h)
-  forecast-within h = subst (λ (c : Parameters). Good c s x → WithinLimit c (forecastOf s h) (expectedForecast c x h)) (w .0) (forecast-close s x h) (w .1)
+  forecast-within h = subst (λ (c : Parameters). Good c s x → WithinLimit c (forecastOf s h) (expectedForecast c x h)) (w .0) (λ g. forecast-close s x g h) (w .1)
+
+  walk-within : (k : Calendar) → Followed (s .period) k → (h : ℕ) → WithinLimit c (forecastBy k s h) (expectedForecastBy k c x h)
+  walk-within k f h =
+      subst (λ (c : Parameters). Good c s x → WithinLimit c (forecastBy k s h) (expectedForecastBy k c x h)) (w .0) (λ g. walk-close s x g h k f) (w .1)
 
   -- each of the m season values
   value-is : (k : ℕ) → k < s .period → valueAt s k ≡ getD (s .seasonal) k (pos 0)
@@ -70,6 +77,9 @@ keeps c =
       switch = kept-switch c;
       level = level-within c;
       forecast = forecast-within c;
+      aligned = λ s x w m. (w .1 .index, w .1 .count, sym (ap (λ (p : Parameters). p .period) (w .0)));
+      placing = λ s x w m p h. (w .0, good-placed c s x (w .1) p h);
+      walk = walk-within c;
     }
 
 -- ---- the opening state: nothing is off
@@ -93,11 +103,12 @@ module _ (s : State) (o : Opening s) where
         typed = o .typed;
         flat = rw (o .trendless);
         index = refl;
+        count = refl;
         bare = λ h k. rw h;
         level = no-error (0 * 1) (levelErr s (opened s)) level-start;
         places = λ k. no-error (0 * 1) (seasonErr s (opened s) k) (season-start k);
         plain = λ h. no-size (65536 * s .alpha) (4294967296 * 1) (levelErr s (opened s)) level-start;
-        cycle = λ h a g z. inv-start 4294967296 (65536 * (65536 - s .alpha)) (65536 * s .gamma) (65536 * (65536 - s .gamma)) (s .period) (s .index) (omega arith) (omega (arith, bounded s (o .passes) .gamma)) (omega arith) (omega arith) (omega (arith, with-season s (o .passes) h .index)) (levelErr s (opened s)) (seasonErr s (opened s)) level-start season-start;
+        cycle = λ h a g z u. inv-start 4294967296 (65536 * (65536 - s .alpha)) (65536 * s .gamma) (65536 * (65536 - s .gamma)) (s .period) (s .index) (omega arith) (omega (arith, bounded s (o .passes) .gamma)) (omega arith) (omega arith) (omega (arith, with-season s (o .passes) h .index)) (levelErr s (opened s)) (seasonErr s (opened s)) level-start season-start;
       }
 
 pub demand3 : Demand3

@@ -1,5 +1,6 @@
--- The invariant of a list of calls: a state against the exact recursion that runs beside it. It is kept by a reading, by a missing one and by a switch of the rounding rule.
-use mathlib.Core.Path.{_≡_, sym, _∙_, ap, subst}
+-- The invariant of a list of calls: a state against the exact recursion that runs beside it. It is kept by a reading, by a missing one, by a switch of the rounding rule and
+-- where a list took effect.
+use mathlib.Core.Path.{_≡_, refl, sym, _∙_, ap, subst}
 use mathlib.Core.Bool.{Bool, true, false, cond, not, false≢true}
 use Prim.Native.Nat.{ℕ, suc, _+_, _*_, _-_, _^_, _≤_, _<_}
 use native.Mathlib.Decide.{ℕ-discrete}
@@ -9,20 +10,23 @@ use lib.Dec.{T, ltb, ltb→lt, nltb→le}
 use lib.IntN.{ℤ, pos}
 use lib.ListN.{length, getD}
 use Rattle.models.specs.Models.{hasTrend, hasSeason}
-use Rattle.state.specs.States.{Typed, check}
+use Rattle.state.specs.States.{Typed, indexOk, check}
 use Rattle.state.specs.Switching.{switched}
 use Rattle.state.specs.declared.State.{State}
 use Rattle.state.proofs.Passing.{bounded, no-season, with-season}
 use Rattle.state.proofs.Switches.{switch-law}
-use Rattle.ets.specs.Steps.{termsOf, nextIndex, newSeason, newSeasonal, residualOf, afterReading, afterMissing}
+use Rattle.calendars.specs.Turns.{nextIndex}
+use Rattle.ets.specs.Steps.{seasonalBy, afterReading, afterMissing}
 use Rattle.ets.specs.Promises.{held}
 use Rattle.ets.proofs.Kept.{reading-typed}
+use Rattle.ets.proofs.CalendarLaws.{placed, placed-kept}
 use Rattle.ets.proofs.MissingLaws.{after-held}
 use Rattle.drift.proofs.Averages.{D, negD, zeroD, Same, StepBelow, half-mix, half-keep, plain-mix}
 use Rattle.drift.proofs.Cycles.{CycleInvariant, negs, inv-step, inv-wrap}
 use Rattle.drift.proofs.Errors.{parts, err, Both}
+use Rattle.drift.proofs.Turns.{shifted}
 use Rattle.drift.proofs.Readings.{power, power-next, levelErr, seasonErr, reading-below, reading-above}
-use Rattle.drift.specs.Exact.{Parameters, parametersOf, Exact, exactReading, exactMissing, exactSeason}
+use Rattle.drift.specs.Exact.{Parameters, parametersOf, Exact, exactReading, exactMissing, exactSeasonBy}
 
 -- 2 a |d| ≤ e
 abbrev pub Sized : ℕ → ℕ → D → Type 0
@@ -33,11 +37,12 @@ pub record Good (c : Parameters) (s : State) (x : Exact) : Type 0 where
   pub typed : Typed s
   pub flat : hasTrend (s .model) ≡ false
   pub index : x .p ≡ s .index
+  pub count : x .count ≡ s .count
   pub bare : c .seasonal ≡ false → (k : ℕ) → x .S k ≡ pos 0
   pub level : Both (x .n * power x) (levelErr s x) zeroD
   pub places : (k : ℕ) → Both (x .n * power x) (seasonErr s x k) zeroD
   pub plain : c .seasonal ≡ false → Sized (65536 * c .alpha) (4294967296 * power x) (levelErr s x)
-  pub cycle : c .seasonal ≡ true → c .alpha < 65536 → 0 < c .gamma → x .missed ≡ 0 → CycleInvariant 4294967296 (65536 * (65536 - c .alpha)) (65536 * c .gamma) (c .period) (power x) (s .index) (levelErr s x) (seasonErr s x)
+  pub cycle : c .seasonal ≡ true → c .alpha < 65536 → 0 < c .gamma → x .missed ≡ 0 → x .changed ≡ 0 → CycleInvariant 4294967296 (65536 * (65536 - c .alpha)) (65536 * c .gamma) (c .period) (power x) (s .index) (levelErr s x) (seasonErr s x)
 
 -- ---- the next place
 data Next (m p : ℕ) : ℕ → Type 0 where
@@ -128,31 +133,32 @@ module _ (s : State) (x : Exact) (w : Good (parametersOf s) s x) where
         still : Same (seasonErr s x (s .index)) zeroD
         still = idle (hasSeason (s .model)) (power x) (getD (s .seasonal) (s .index) (pos 0)) (x .S (s .index)) h (w .bare h (s .index))
 
-    cycle′ : hasSeason (s .model) ≡ true → s .alpha < 65536 → 0 < s .gamma → x .missed ≡ 0 → CycleInvariant 4294967296 (65536 * (65536 - s .alpha)) (65536 * s .gamma) (s .period) (4294967296 * power x) (nextIndex (s .period) (s .index)) (levelErr s′ x′) (seasonErr s′ x′)
+    cycle′ : hasSeason (s .model) ≡ true → s .alpha < 65536 → 0 < s .gamma → x .missed ≡ 0 → x .changed ≡ 0 → CycleInvariant 4294967296 (65536 * (65536 - s .alpha)) (65536 * s .gamma) (s .period) (4294967296 * power x) (nextIndex (s .period) (s .index)) (levelErr s′ x′) (seasonErr s′ x′)
     unfolding B
-    cycle′ h a g z =
+    cycle′ h a g z u =
         inv-next 4294967296 (65536 * B) (65536 * s .gamma) (65536 * C) (s .period) (4294967296 * power x) (s .index) (nextIndex (s .period) (s .index)) (levelErr s′ x′) (seasonErr s′ x′) hG (omega arith) (with-season s (w .passes) h .index) (next (s .period) (s .index))
-        (inv-step 4294967296 (65536 * s .alpha) (65536 * B) (65536 * s .gamma) (65536 * C) (s .period) (power x) (s .index) (levelErr s x) (seasonErr s x) (levelErr s′ x′) (seasonErr s′ x′) hA hG (with-season s (w .passes) h .index) below above (w .cycle h a g z))
+        (inv-step 4294967296 (65536 * s .alpha) (65536 * B) (65536 * s .gamma) (65536 * C) (s .period) (power x) (s .index) (levelErr s x) (seasonErr s x) (levelErr s′ x′) (seasonErr s′ x′) hA hG (with-season s (w .passes) h .index) below above (w .cycle h a g z u))
 
     pub good-reading : check (afterReading s y) ≡ 0 → Good (parametersOf s) (afterReading s y) (exactReading (parametersOf s) x y)
-    unfolding s′ x′ newSeasonal exactSeason
+    unfolding s′ x′ seasonalBy exactSeasonBy
     good-reading ok =
         record {
           passes = ok;
           typed = reading-typed s y (w .typed);
           flat = w .flat;
           index = ap (nextIndex (s .period)) (w .index);
+          count = omega (arith, w .count);
           bare = λ h k. rw h;
           level = subst (λ (P : ℕ). Both (suc (x .n) * P) (levelErr s′ x′) zeroD) grown level′;
           places = λ k. subst (λ (P : ℕ). Both (suc (x .n) * P) (seasonErr s′ x′ k) zeroD) grown (season′ k (ℕ-discrete k (s .index)));
           plain = λ h. subst (λ (P : ℕ). Sized (65536 * s .alpha) (4294967296 * P) (levelErr s′ x′)) grown (plain′ h);
-          cycle = λ h a g z. subst (λ (P : ℕ). CycleInvariant 4294967296 (65536 * (65536 - s .alpha)) (65536 * s .gamma) (s .period) P (nextIndex (s .period) (s .index)) (levelErr s′ x′) (seasonErr s′ x′)) grown (cycle′ h a g z);
+          cycle = λ h a g z u. subst (λ (P : ℕ). CycleInvariant 4294967296 (65536 * (65536 - s .alpha)) (65536 * s .gamma) (s .period) P (nextIndex (s .period) (s .index)) (levelErr s′ x′) (seasonErr s′ x′)) grown (cycle′ h a g z u);
         }
 
   -- ---- a missing reading accepted: without trend it only moves p
   x″ : Exact
   x″ =
-      record { L = x .L; T = x .T; S = x .S; p = nextIndex (s .period) (x .p); n = x .n; missed = suc (x .missed) }
+      record { L = x .L; T = x .T; S = x .S; p = nextIndex (s .period) (x .p); n = x .n; count = suc (x .count); missed = suc (x .missed); changed = x .changed }
 
   exact-held : exactMissing (parametersOf s) x ≡ x″
   unfolding x″
@@ -166,11 +172,12 @@ module _ (s : State) (x : Exact) (w : Good (parametersOf s) s x) where
         typed = record { cells = w .typed .cells; low = w .typed .low };
         flat = w .flat;
         index = ap (nextIndex (s .period)) (w .index);
+        count = omega (arith, w .count);
         bare = w .bare;
         level = w .level;
         places = w .places;
         plain = w .plain;
-        cycle = λ h a g z. absurd (omega arith);
+        cycle = λ h a g z u. absurd (omega arith);
       }
 
   pub good-missing : check (afterMissing s) ≡ 0 → Good (parametersOf s) (afterMissing s) (exactMissing (parametersOf s) x)
@@ -188,9 +195,26 @@ good-switch c s x w =
       typed = record { cells = w .typed .cells; low = w .typed .low };
       flat = law .trend ∙ w .flat;
       index = w .index;
+      count = w .count;
       bare = w .bare;
       level = w .level;
       places = rw (law .season) (w .places);
       plain = w .plain;
-      cycle = λ h a g z. subst (λ (b : Bool). CycleInvariant 4294967296 (65536 * (65536 - c .alpha)) (65536 * c .gamma) (c .period) (power x) (s .index) (levelErr s x) (λ k. negD (err (power x) (parts (cond b (getD (s .seasonal) k (pos 0)) (pos 0))) (parts (x .S k))))) (sym (law .season)) (w .cycle h a g z);
+      cycle = λ h a g z u. subst (λ (b : Bool). CycleInvariant 4294967296 (65536 * (65536 - c .alpha)) (65536 * c .gamma) (c .period) (power x) (s .index) (levelErr s x) (λ k. negD (err (power x) (parts (cond b (getD (s .seasonal) k (pos 0)) (pos 0))) (parts (x .S k))))) (sym (law .season)) (w .cycle h a g z u);
+    }
+
+-- ---- a list took effect: state and exact recursion stand at another place, and the cycle is claimed no more
+pub good-placed : (c : Parameters) (s : State) (x : Exact) → Good c s x → (p : ℕ) → indexOk (s .period) p ≡ true → Good c (placed s p) (shifted x p)
+good-placed c s x w p h =
+    record {
+      passes = placed-kept s p (w .passes) h;
+      typed = record { cells = w .typed .cells; low = w .typed .low };
+      flat = w .flat;
+      index = refl;
+      count = w .count;
+      bare = w .bare;
+      level = w .level;
+      places = w .places;
+      plain = w .plain;
+      cycle = λ h a g z u. absurd (omega arith);
     }

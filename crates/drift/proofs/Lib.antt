@@ -13,10 +13,12 @@ pub mod Readings
 pub mod Invariant
 pub mod ForecastErrors
 pub mod Distances
--- the calls, and a list of them
+-- a step by a calendar; the calls, and a list of them
+pub mod Turns
 pub mod Runs
 pub mod Drift
 -- the component form and one step; the pins
 pub mod Components
 pub mod StepErrors
 pub mod Computed
+pub mod ComputedClocks

@@ -16,11 +16,11 @@ use Rattle.models.specs.Models.{hasTrend, hasSeason, tiesToEven}
 use Rattle.state.specs.declared.Score.{Score}
 use Rattle.state.specs.declared.State.{State}
 use Rattle.state.proofs.Rounding.{share-none}
-use Rattle.ets.specs.Steps.{termsOf, dampedTrend, seasonDue, residualOf, newLevel, newSeason, newSeasonal, corrected, afterReading, residual}
+use Rattle.ets.specs.Steps.{termsOf, dampedTrend, seasonBy, seasonDue, residualOf, newLevel, newSeason, seasonalBy, corrected, afterReading, residual}
 use Rattle.drift.proofs.Averages.{D, negD, mix, zeroD, Same, scaleD, StepBelow}
 use Rattle.drift.proofs.Cycles.{negs}
 use Rattle.drift.proofs.Errors.{parts, addD, err, Both, residual-error, corrected-both}
-use Rattle.drift.specs.Exact.{Parameters, Exact, parametersOf, exponent, exactDamped, exactReading, exactResidual, exactSeason, adjusted}
+use Rattle.drift.specs.Exact.{Parameters, Exact, parametersOf, exponent, exactDamped, exactReading, exactResidualBy, exactResidual, exactSeasonBy, adjusted}
 
 abbrev pub power : Exact → ℕ
 power x = 65536 ^ (2 * x .n)
@@ -83,21 +83,21 @@ module _ (c : Parameters) (x : Exact) (y : ℤ) (p : ℕ) (flat : c .trended ≡
   still = rw flat
 
   residual-at : exactResidual c x y ≡ pos 65536 *ℤ E
-  unfolding exactResidual
+  unfolding exactResidualBy
   residual-at = rw (even c x flat, still, same-p, pow-succ' 65536 (2 * x .n)) (residual-law (power x) (x .L) (x .S p) y)
 
   L-new : exactReading c x y .L ≡ pos 4294967296 *ℤ x .L +ℤ pos (65536 * c .alpha) *ℤ E
   L-new = rw residual-at (adjusted-law (c .alpha) (x .L) (pos 65536 *ℤ x .L +ℤ exactDamped c x) E (plus-none (pos 65536 *ℤ x .L) (exactDamped c x) still))
 
   S-here : exactReading c x y .S p ≡ pos 4294967296 *ℤ x .S p +ℤ pos (65536 * c .gamma) *ℤ E
-  unfolding exactSeason
+  unfolding exactSeasonBy
   S-here =
       rw (eq-eqb p (x .p) (sym same-p), residual-at)
       (exact-here (c .seasonal) (c .gamma) (pos 65536 *ℤ x .S p) (pos 65536 *ℤ E) (λ h. (none h .0, rw (none h .1 p)))
       ∙ adjusted-law (c .gamma) (x .S p) (pos 65536 *ℤ x .S p) E refl)
 
   S-there : (k : ℕ) → k ≢ p → exactReading c x y .S k ≡ pos 4294967296 *ℤ x .S k
-  unfolding exactSeason
+  unfolding exactSeasonBy
   S-there k h =
       rw (ne-eqb k (x .p) (λ q. h (q ∙ same-p)))
       (exact-here (c .seasonal) 0 (pos 65536 *ℤ x .S k) (exactResidual c x y) (λ z. (refl, rw (none z .1 k)))
@@ -110,13 +110,13 @@ module _ (s : State) (e : ℤ) (score : Score) (flat : dampedTrend s ≡ pos 0) 
   level-new = omega (arith, sum (s .level +ℤ dampedTrend s) (share (tiesToEven (s .model)) (s .alpha) e), sum (s .level) (dampedTrend s), ap up flat, ap dn flat)
 
   value-new : Same (parts (valueAt (corrected s e score) (s .index))) (addD (parts (valueAt s (s .index))) (parts (share (tiesToEven (s .model)) (s .gamma) e)))
-  unfolding newSeasonal newSeason seasonDue
+  unfolding seasonalBy newSeason seasonBy
   value-new =
       rw (stored-here (hasSeason (s .model)) (s .seasonal) (s .index) (newSeason (termsOf s) e) fits)
       (moved (hasSeason (s .model)) (getD (s .seasonal) (s .index) (pos 0)) (share (tiesToEven (s .model)) (s .gamma) e) (λ h. rw (none h) (share-none (tiesToEven (s .model)) e)))
 
   value-other : (k : ℕ) → k ≢ s .index → valueAt (corrected s e score) k ≡ valueAt s k
-  unfolding newSeasonal
+  unfolding seasonalBy
   value-other k h = stored-there (hasSeason (s .model)) (s .seasonal) (s .index) k (newSeason (termsOf s) e) h
 
 -- a value that is not visited, at the next power
@@ -146,7 +146,7 @@ module _ (s : State) (x : Exact) (y : ℤ) (B C : ℕ) (hA : 65536 * s .alpha + 
   flat = rw trendless
 
   residuals : Same (addD (err (power x) (parts (residualOf s y)) (parts (E (parametersOf s) x y (s .index) trendless same-p none))) (addD (err (power x) (parts (s .level)) (parts (x .L))) (err (power x) (parts (valueAt s (s .index))) (parts (x .S (s .index)))))) zeroD
-  unfolding residual seasonDue
+  unfolding residual seasonBy
   residuals =
       residual-error (power x) (residualOf s y) (s .level) (dampedTrend s) (seasonDue s) (x .L) (x .S (s .index)) y flat refl
 

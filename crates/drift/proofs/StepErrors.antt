@@ -18,8 +18,8 @@ use Rattle.state.specs.States.{check}
 use Rattle.state.specs.declared.State.{State}
 use Rattle.state.proofs.Passing.{bounded, no-trend, no-season}
 use Rattle.state.proofs.Rounding.{share-error}
-use Rattle.ets.specs.Steps.{termsOf, dampedTrend, seasonDue, residualOf, newLevel, newTrend, newSeason, newSeasonal, afterReading, advanced, residual}
-use Rattle.drift.specs.Exact.{Parameters, parametersOf, Exact, opened, exactDamped, exactResidual, adjusted, exactReading}
+use Rattle.ets.specs.Steps.{termsOf, dampedTrend, seasonBy, residualOf, newLevel, newTrend, newSeason, seasonalBy, newSeasonal, afterReading, advanced, residual}
+use Rattle.drift.specs.Exact.{Parameters, parametersOf, Exact, opened, exactDamped, exactResidualBy, exactResidual, adjusted, exactReading}
 use Rattle.drift.specs.Limits.{AtMost}
 use Rattle.drift.specs.Components.{StepErrors, MissingErrors}
 use Rattle.drift.proofs.Components.{season-here, season-there}
@@ -95,7 +95,7 @@ module _ (s : State) (full : length (s .seasonal) ≡ 48) (ok : check s ≡ 0) (
   small = damped-apart (hasTrend (s .model)) (tiesToEven (s .model)) (s .phi) (s .trend)
 
   residuals : exactResidual c x y ≡ pos 65536 *ℤ residualOf s y +ℤ η
-  unfolding exactResidual residual seasonDue
+  unfolding exactResidualBy residual seasonBy
   residuals = rw (none-missed (hasTrend (s .model))) (residual-law (s .level) (dampedTrend s) (exactDamped c x) (x .S (s .index)) y)
 
   level : AtMost 1 1 2 (afterReading s y .level) (exactReading c x y .L)
@@ -112,15 +112,15 @@ module _ (s : State) (full : length (s .seasonal) ≡ 48) (ok : check s ≡ 0) (
   -- the place that the reading has, and another
   module _ (h : hasSeason (s .model) ≡ true) where
     stored-here : getD (newSeasonal s (residualOf s y)) (s .index) (pos 0) ≡ newSeason (termsOf s) (residualOf s y)
-    unfolding newSeasonal
+    unfolding seasonalBy
     stored-here = rw h (getD-set-same (s .seasonal) (s .index) (newSeason (termsOf s) (residualOf s y)) (pos 0) (omega (arith, bounded s ok .index)))
 
     stored-there : (k : ℕ) → k ≢ s .index → getD (newSeasonal s (residualOf s y)) k (pos 0) ≡ x .S k
-    unfolding newSeasonal
+    unfolding seasonalBy
     stored-there k q = rw h (getD-set-other (s .seasonal) (s .index) k (newSeason (termsOf s) (residualOf s y)) (pos 0) q)
 
     season-of : (k : ℕ) → Dec (k ≡ s .index) → AtMost 1 1 2 (getD (afterReading s y .seasonal) k (pos 0)) (exactReading c x y .S k)
-    unfolding newSeason seasonDue
+    unfolding newSeason seasonBy
     season-of k (yes q) =
         rw (q, stored-here, season-here c x (exactResidual c x y) h)
         (kept (tiesToEven (s .model)) (s .gamma) (bounded s ok .gamma) (residualOf s y) η (exactResidual c x y) residuals small (x .S (s .index)))

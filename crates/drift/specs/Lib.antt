@@ -3,3 +3,4 @@ pub mod Limits
 pub mod Components
 pub mod ForecastErrors
 pub mod Pins
+pub mod ClockPins

@@ -48,13 +48,14 @@ divisor c = c .gamma * (65536 - c .alpha) ^ c .period
 abbrev pub SeasonalBound : Parameters → ℕ → ℤ → ℤ → Type 0
 SeasonalBound c power z Z = AtMost (c .period * divisor c + 2 * (c .period * 65536 ^ suc (c .period))) (divisor c) power z Z
 
--- a level in a cell: n/2. A forecast with no missing reading accepted before it: 1/(2α) without season, the season's limit with one
+-- a level in a cell: n/2. A forecast with no missing reading accepted before it: 1/(2α) without season; with one the season's limit, where no list took effect on a step
+-- accepted before it either (document 02, W-208; the forecast's own walk may meet one)
 unfoldable pub WithinLimit : Parameters → ℤ → Expected → Type 0
 WithinLimit c z (level-is L n) = HalfPerReading n z L
-WithinLimit c z (forecast-is F h power missed) =
+WithinLimit c z (forecast-is F h power missed changed) =
     missed ≡ 0
     → (c .seasonal ≡ false → PlainBound c power z F)
-    × (c .seasonal ≡ true → SeasonalBound c power z F)
+    × (c .seasonal ≡ true → changed ≡ 0 → SeasonalBound c power z F)
 
 -- the level and each of the m season values, by n/2
 pub record StateWithin (c : Parameters) (s : State) (x : Exact) : Type 0 where

@@ -34,7 +34,7 @@ plain l = stateOf false 0 0 32768 0 0 0 l (pos 0) [] 0 0 noScore
 
 -- an exact recursion that stands at L and n, with S at one place (the others are 0)
 abbrev pub standing : ℤ → ℕ → ℕ → ℤ → Exact
-standing L n k S = record { L = L; T = pos 0; S = λ j. cond (eqb j k) S (pos 0); p = 0; n = n; missed = 0 }
+standing L n k S = record { L = L; T = pos 0; S = λ j. cond (eqb j k) S (pos 0); p = 0; n = n; count = 0; missed = 0; changed = 0 }
 
 abbrev pub ClaimOf : State → Exact → List Call → Type 0
 ClaimOf s x calls = Claim (parametersOf s) s x calls
@@ -144,9 +144,9 @@ pub record Needed : Type 0 where
   pub level-alone : (fallenExact .n ≡ 14) × (fallenExact .missed ≡ 0) × (SeasonalBound (parametersOf fallen) 28 (fallen .level) (fallenExact .L) → ⊥)
   -- nor of a forecast after missing readings: an untouched place stays behind a level that creeps
   pub answer : result gone (Forecast maxHorizon 2) .numbers ≡ negsuc 425970 ∷ []
-  pub judged : expected (parametersOf gone) goneExact (result gone (Forecast maxHorizon 2) .event) ≡ forecast-is (exactForecast (parametersOf gone) goneExact 2) 2 28 13 ∷ []
+  pub judged : expected (parametersOf gone) goneExact (result gone (Forecast maxHorizon 2) .event) ≡ forecast-is (exactForecast (parametersOf gone) goneExact 2) 2 28 13 0 ∷ []
   pub missing : SeasonalBound (parametersOf gone) 28 (negsuc 425970) (exactForecast (parametersOf gone) goneExact 2) → ⊥
-  pub unclaimed : WithinLimit (parametersOf gone) (negsuc 425970) (forecast-is (exactForecast (parametersOf gone) goneExact 2) 2 28 13)
+  pub unclaimed : WithinLimit (parametersOf gone) (negsuc 425970) (forecast-is (exactForecast (parametersOf gone) goneExact 2) 2 28 13 0)
 
 -- ---- a run with every kind of call, from a count of 2^48 − 5: rejected are the reading 1,000,001 (13), the forecasts at 513 and, on the bedside display, at 49
 -- (11), the calls in place with a byte after the snapshot (3) and the one with a byte too few (4), the batch at its third reading (13), and the last reading, for the
@@ -198,22 +198,22 @@ pub record Shown : Type 0 where
       ∷ ([], [])
       ∷ (
         pos 14464 ∷ pos 265540 ∷ pos 14464 ∷ [],
-        forecast-is (pos (947912704 * 65536 ^ 2)) 1 3 0 ∷ forecast-is (pos (17402429440 * 65536 ^ 3)) 2 4 0 ∷ forecast-is (pos (947912704 * 65536 ^ 4)) 3 5 0 ∷ [],
+        forecast-is (pos (947912704 * 65536 ^ 2)) 1 3 0 0 ∷ forecast-is (pos (17402429440 * 65536 ^ 3)) 2 4 0 0 ∷ forecast-is (pos (947912704 * 65536 ^ 4)) 3 5 0 0 ∷ [],
       )
       ∷ ([], [])
-      ∷ (pos 14464 ∷ pos 265540 ∷ [], forecast-is (pos (947912704 * 65536 ^ 2)) 1 3 0 ∷ forecast-is (pos (17402429440 * 65536 ^ 3)) 2 4 0 ∷ [])
-      ∷ (pos 265540 ∷ [], forecast-is (pos (17402429440 * 65536 ^ 3)) 2 4 0 ∷ [])
+      ∷ (pos 14464 ∷ pos 265540 ∷ [], forecast-is (pos (947912704 * 65536 ^ 2)) 1 3 0 0 ∷ forecast-is (pos (17402429440 * 65536 ^ 3)) 2 4 0 0 ∷ [])
+      ∷ (pos 265540 ∷ [], forecast-is (pos (17402429440 * 65536 ^ 3)) 2 4 0 0 ∷ [])
       ∷ ([], [])
       ∷ ([], [])
       ∷ ([], [])
       ∷ ([], [])
-      ∷ (pos 153432 ∷ [], forecast-is (pos (658983803158528 * 65536 ^ 4)) 2 6 0 ∷ [])
+      ∷ (pos 153432 ∷ [], forecast-is (pos (658983803158528 * 65536 ^ 4)) 2 6 0 0 ∷ [])
       ∷ ([], [])
       ∷ ([], [])
       ∷ ([], [])
       ∷ (pos 57586 ∷ pos 57586 ∷ [], level-is (pos (16209040145121280000 * 65536 ^ 3)) 3 ∷ level-is (pos (16209040145121280000 * 65536 ^ 3)) 3 ∷ [])
       ∷ ([], [])
-      ∷ (pos 75432 ∷ [], forecast-is (pos (21232154068813611008 * 65536 ^ 4)) 1 7 2 ∷ [])
+      ∷ (pos 75432 ∷ [], forecast-is (pos (21232154068813611008 * 65536 ^ 4)) 1 7 2 0 ∷ [])
       ∷ ([], [])
       ∷ []
 

@@ -3,6 +3,7 @@ ghost use Rattle.drift.specs.Components.{ComponentForms, StepErrors, Mis
 ghost use Rattle.drift.specs.ForecastErrors.{ForecastErrors};
 ghost use Rattle.drift.specs.Limits.{Demand3};
 ghost use Rattle.drift.specs.Pins.{Pins};
+ghost use Rattle.drift.specs.ClockPins.{ClockPins};
 
 // Every list of calls from an opening state stays within the limits.
 pub fn demand3()
@@ -12,6 +13,11 @@ pub fn demand3()
 // The limits are no weaker than document 01 has them: claims that fail, runs that come up to them, runs that need their conditions.
 pub fn pins()
     ensures { λ _. ⌜ Pins ⌝ }
+{}
+
+// Nor over clock changes than document 02, W-208, has them.
+pub fn clock_pins()
+    ensures { λ _. ⌜ ClockPins ⌝ }
 {}
 
 // The exact step is the component form, for every model.

@@ -7,7 +7,8 @@ use Rattle.state.specs.Rejections.{_then_, accepting, outcome}
 use Rattle.models.specs.Models.{hasTrend}
 use Rattle.state.specs.States.{moved, check}
 use Rattle.state.specs.declared.State.{State}
-use Rattle.ets.specs.Steps.{nextIndex, corrected, afterMissing, countCode, missingCode, missing}
+use Rattle.calendars.specs.Turns.{nextIndex}
+use Rattle.ets.specs.Steps.{corrected, afterMissing, countCode, missingCode, missing}
 use Rattle.ets.specs.declared.Missed.{Missed}
 
 -- a missing reading as document 01 has it: it leaves l, b and s as they were, moves p and adds one to the count; after the state's checks 14 alone rejects it

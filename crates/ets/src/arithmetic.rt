@@ -18,7 +18,7 @@ ghost use Prim.Native.Nat.{_≤_, _<_};
 ghost use Rattle.integers.specs.Bounds.{Within};
 ghost use Rattle.state.specs.Rejections.{unless, _then_, bad-reading};
 ghost use Rattle.state.specs.Fixed.{R, share, inRange, isReading};
-ghost use Rattle.ets.specs.Steps.{residual, squareOf, scoreAfter, nextIndex, countCode};
+ghost use Rattle.ets.specs.Steps.{residual, squareOf, scoreAfter, countCode};
 ghost use Rattle.ets.specs.Updates.{numbersOf, termsAt, corrections, notUpdated, readingUpdate, advance, missingUpdate};
 ghost use Rattle.ets.specs.Bounds.{NumbersIn, AdvanceIn, TermsIn, ScoreIn};
 
@@ -211,12 +211,4 @@ pub fn missing_update(even: bool, n: Numbers) -> Update
         return not_updated(code);
     }
     u
-}
-
-// The seasonal index after p.
-pub fn next_index(m: u8, p: u8) -> u8
-    ensures { λ r. ⌜ r ≡ nextIndex m p ⌝ }
-{
-    let next = (p as u32) + 1;
-    if next < (m as u32) { next as u8 } else { 0 }
 }

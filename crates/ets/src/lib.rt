@@ -5,7 +5,6 @@ pub mod promises;
 pub mod steps;
 pub mod updates;
 
-pub use arithmetic::next_index;
 use state::Answer;
 use state::Outcome;
 use state::State;

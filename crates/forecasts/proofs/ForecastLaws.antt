@@ -27,7 +27,7 @@ use Rattle.state.proofs.Tests.{then-zero, unless-zero}
 use Rattle.state.proofs.Rounding.{share-within}
 use Rattle.state.specs.Valid.{Valid}
 use Rattle.state.proofs.Passing.{bounded, range-in}
-use Rattle.ets.specs.Steps.{nextIndex}
+use Rattle.calendars.specs.Turns.{nextIndex}
 use Rattle.forecasts.specs.Forecasts.{trendAt, trendLine, seasonAt, horizonOk, forecastCodeTo, forecastCode, forecastFromCode, forecastOf, forecastList}
 
 -- the horizon of a forecast that is not rejected

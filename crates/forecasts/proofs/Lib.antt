@@ -1,3 +1,4 @@
 pub mod ForecastLaws
+pub mod CalendarLaws
 pub mod MissingLaws
 pub mod DisplayLaws

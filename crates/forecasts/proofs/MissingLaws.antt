@@ -11,7 +11,8 @@ use Rattle.state.specs.Fixed.{share}
 use Rattle.models.specs.Models.{tiesToEven}
 use Rattle.state.specs.declared.State.{State}
 use Rattle.state.proofs.Passing.{valid}
-use Rattle.ets.specs.Steps.{dampedTrend, nextIndex, advanced, afterMissing, missingCode, missing}
+use Rattle.calendars.specs.Turns.{nextIndex}
+use Rattle.ets.specs.Steps.{dampedTrend, advanced, afterMissing, missingCode, missing}
 use Rattle.ets.proofs.StepLaws.{missing-accepted, missing-facts}
 use Rattle.ets.proofs.UpdateLaws.{damped-is}
 use Rattle.ets.proofs.Kept.{missing-kept}
@@ -19,12 +20,12 @@ use Rattle.forecasts.specs.Forecasts.{trendAt, trendLine, seasonAt, maxH
 use Rattle.forecasts.specs.Promises.{MissingForecasts}
 use Rattle.forecasts.proofs.ForecastLaws.{ahead, season-ahead}
 
-trend-on : (even : Bool) (F : ℕ) (b : ℤ) (j : ℕ) → trendAt even F (share even F b) j ≡ trendAt even F b (suc j)
+pub trend-on : (even : Bool) (F : ℕ) (b : ℤ) (j : ℕ) → trendAt even F (share even F b) j ≡ trendAt even F b (suc j)
 unfolding trendAt
 trend-on even F b zero = refl
 trend-on even F b (suc j) = ap (share even F) (trend-on even F b j)
 
-line-on : (even : Bool) (l : ℤ) (F : ℕ) (b : ℤ) (h : ℕ) → trendLine even (l +ℤ share even F b) F (share even F b) h ≡ trendLine even l F b (suc h)
+pub line-on : (even : Bool) (l : ℤ) (F : ℕ) (b : ℤ) (h : ℕ) → trendLine even (l +ℤ share even F b) F (share even F b) h ≡ trendLine even l F b (suc h)
 unfolding trendAt trendLine
 line-on even l F b zero = refl
 line-on even l F b (suc h) = ap₂ (λ (x y : ℤ). x +ℤ y) (line-on even l F b h) (trend-on even F b (suc h))

@@ -1,2 +1,3 @@
 pub mod Forecasts
+pub mod Calendars
 pub mod Promises

@@ -1,4 +1,5 @@
 // Forecasts from a state by value: for one horizon, and for all of them into a lent buffer. Document 01, "Forecast and variance".
+pub mod changes;
 pub mod promises;
 mod sums;
 
@@ -79,7 +80,9 @@ fn forecasts_to(limit: u32, s: State, h: u32, values: &mut [i64]) -> Outcome
     if n != 0 {
         return Outcome::Rejected(n);
     }
-    fill(s, count, values);
+    let skipped = [0u64; 0];
+    let repeated = [0u64; 0];
+    fill(s, &skipped, &repeated, count, values);
     Outcome::Accepted
 }
 

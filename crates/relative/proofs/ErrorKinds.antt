@@ -14,8 +14,8 @@ use Rattle.state.specs.Switching.{switched, switchToEven}
 use Rattle.state.specs.States.{parametersCode, check}
 use Rattle.state.specs.declared.State.{State}
 use Rattle.state.specs.declared.Answer.{Answer}
-use Rattle.ets.specs.Steps.{dampedTrend, seasonDue, termsOf, newSeasonal, residual, residualOf, afterReading, afterMissing, stepCode, missingCode, step, missing}
-use Rattle.ets.specs.Batches.{Run, takeCode, afterTake, halted, preceded, run, batchCode, batchRun, batch, batchLevels}
+use Rattle.ets.specs.Steps.{dampedTrend, seasonBy, termsOf, seasonalBy, newSeasonal, residual, residualOf, afterReading, afterMissing, stepCodeBy, stepCode, missingCode, step, missing}
+use Rattle.ets.specs.Batches.{Run, takeCodeBy, takeCode, afterTakeBy, afterTake, halted, preceded, runBy, run, batchCode, batchRun, batch, batchLevels}
 use Rattle.ets.specs.declared.Terms.{Terms}
 use Rattle.forecasts.specs.Forecasts.{seasonAt, forecastOf, forecastCodeTo, forecastTo, forecastList, forecastsCodeTo, forecastsTo, forecastCellsTo}
 use Rattle.weights.specs.Weights.{errorsCode, weight, variance}
@@ -90,18 +90,18 @@ module _ (s : State) where
   r = withRelativeErrors s
 
   terms : termsOf r ≡ termsOf s
-  unfolding dampedTrend seasonDue
+  unfolding dampedTrend seasonBy
   terms = rw (trend-kept (s .model), season-kept (s .model), rounding-kept (s .model))
 
   damped : dampedTrend r ≡ dampedTrend s
   damped = ap (λ (t : Terms). t .damped) terms
 
   cells-kept : (e : ℤ) → newSeasonal r e ≡ newSeasonal s e
-  unfolding newSeasonal
+  unfolding seasonalBy
   cells-kept e = rw (season-kept (s .model), terms)
 
   step-code : (y : ℤ) → stepCode r y ≡ stepCode s y
-  unfolding stepCode
+  unfolding stepCodeBy
   step-code y = rw (checks s, terms)
 
   missing-code : missingCode r ≡ missingCode s
@@ -142,11 +142,11 @@ module _ (s : State) where
       (ap (λ (t : State). record { state = t; outcome = outcome (check s) }) (stands (eqb (check s) 0) (switched r) (switched s) switch-kept))
 
   take-code : (y : ℤ) → takeCode r y ≡ takeCode s y
-  unfolding takeCode
+  unfolding takeCodeBy
   take-code y = rw (missing-code, step-code y)
 
   after-take : (y : ℤ) → afterTake r y ≡ withRelativeErrors (afterTake s y)
-  unfolding afterTake
+  unfolding afterTakeBy
   after-take y = go (isSentinel y)
     where
       go : (b : Bool) → cond b (afterMissing r) (afterReading r y) ≡ withRelativeErrors (cond b (afterMissing s) (afterReading s y))
@@ -182,7 +182,7 @@ ends s n x = go (eqb n 0)
     go false = refl
 
 run-kept : (s : State) (ys : List ℤ) → run (withRelativeErrors s) ys ≡ relativeRun (run s ys)
-unfolding run
+unfolding runBy
 run-kept s [] = refl
 run-kept s (y ∷ ys) =
     let r = withRelativeErrors s in

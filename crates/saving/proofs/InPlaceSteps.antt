@@ -21,7 +21,8 @@ use Rattle.state.specs.declared.State.{State}
 use Rattle.state.proofs.Tests.{unless-zero, then-zero, then-first}
 use Rattle.state.proofs.Passing.{bounded, no-season, with-season}
 use Rattle.integers.proofs.Tests.{both}
-use Rattle.ets.specs.Steps.{dampedTrend, termsOf, residualOf, newLevel, newTrend, newSeason, newSeasonal, squareAt, scoreAfter, nextIndex, afterReading, advanced, afterMissing, corrected, stepCode, missingCode}
+use Rattle.calendars.specs.Turns.{nextIndex}
+use Rattle.ets.specs.Steps.{dampedTrend, termsOf, residualOf, newLevel, newTrend, newSeason, seasonalBy, newSeasonal, squareAt, scoreAfter, afterReading, advanced, afterMissing, corrected, stepCode, missingCode}
 use Rattle.forecasts.specs.Forecasts.{seasonAt as seasonAhead}
 use Rattle.ets.specs.Updates.{numbersOf, corrections, update, advance, updateMissing}
 use Rattle.ets.specs.declared.Numbers.{Numbers}
@@ -143,7 +144,7 @@ module _ (s : State) (ok : check s ≡ 0) (full : length (s .seasonal) ≡ 48) w
       go false h = rw (eq-eqb (s .period) 0 (no-season s ok h .period))
 
   seasons-are : (e : ℤ) → cond (hasSeason (s .model)) (set (s .seasonal) (s .index) (newSeason (termsOf s) e)) (s .seasonal) ≡ newSeasonal s e
-  unfolding newSeasonal
+  unfolding seasonalBy
   seasons-are e = refl
 
   -- level, trend and position, whatever the score and the season's cells

@@ -8,7 +8,7 @@ use lib.IntN.{ℤ, pos}
 use lib.Seq.{sets}
 use Rattle.models.specs.Models.{tiesToEven}
 use Rattle.state.specs.States.{check}
-use Rattle.ets.specs.Steps.{nextIndex}
+use Rattle.calendars.specs.Turns.{nextIndex}
 use Rattle.ets.specs.Updates.{numbersOf}
 use Rattle.state.specs.declared.Score.{Score}
 use Rattle.ets.specs.declared.Update.{Update}

@@ -85,6 +85,11 @@ bad-sigma2 = 18
 abbrev pub not-finite : ℕ
 not-finite = 19
 
+-- A list of clock changes is not strictly rising, a count is in both lists, a window's start or end is above 23, no step is in the window, or m is not 24. (Checked right
+-- after 12.)
+abbrev pub bad-calendar : ℕ
+bad-calendar = 20
+
 -- a check: 0 where the test holds, else its rejection
 abbrev pub unless : Bool → ℕ → ℕ
 unless holds n = cond holds 0 n

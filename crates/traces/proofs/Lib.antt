@@ -1,4 +1,6 @@
 pub mod Slices
+pub mod Works
+pub mod Calendars
 pub mod Results
 pub mod Lists
 pub mod Scores

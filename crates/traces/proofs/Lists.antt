@@ -6,6 +6,7 @@ use mathlib.Core.List.{List, [], _∷_, _++_, append-nil}
 use lib.Dec.{eqb}
 use lib.IntN.{ℤ}
 use lib.ListN.{length}
+use Rattle.calendars.specs.Calendars.{Calendar, noChanges}
 use Rattle.state.specs.Rejections.{answerValue}
 use Rattle.state.specs.Fixed.{isSentinel}
 use Rattle.state.specs.States.{check}
@@ -13,11 +14,12 @@ use Rattle.state.specs.Switching.{switched, switchToEven}
 use Rattle.state.specs.declared.State.{State}
 use Rattle.state.proofs.Switches.{checks-kept}
 use Rattle.state.proofs.Tests.{then-zero}
-use Rattle.ets.specs.Steps.{stepCode, missingCode, afterReading, afterMissing, step, missing as missing-call}
-use Rattle.ets.specs.Batches.{run, preceded, halted, takeCode, afterTake, batchCode, batchRun}
+use Rattle.ets.specs.Steps.{stepCodeBy, stepCode, missingCode, afterReadingBy, afterReading, afterMissingBy, afterMissing, step, missing as missing-call}
+use Rattle.ets.specs.Batches.{runBy, preceded, halted, takeCodeBy, afterTakeBy}
 use Rattle.forecasts.specs.Forecasts.{maxHorizon, forecastCode, forecastOf, forecast}
 use Rattle.forecasts.proofs.ForecastLaws.{list-length}
-use Rattle.ets.proofs.Kept.{reading-typed, reading-kept, missing-kept}
+use Rattle.forecasts.proofs.CalendarLaws.{list-length-by}
+use Rattle.ets.proofs.CalendarLaws.{reading-typed-by, reading-kept-by, missing-kept-by}
 use Rattle.layout.specs.Bytes.{AreBytes}
 use Rattle.layout.specs.Layout.{scoredIn}
 use Rattle.snapshot.specs.Snapshots.{decoded}
@@ -28,58 +30,60 @@ use Rattle.saving.proofs.InPlaceLaws.{in-place-encoded, room-encoded, in-place-
 use Rattle.traces.specs.Calls.{followed, Reading, Missing, Switch, Forecast, InPlaceReading, InPlaceMissing, InPlaceSwitch, InPlaceForecast, horizon, Result, result}
 use Rattle.traces.specs.Laws.{filled, Passing, CallLaws, InPlaceLaws, Holds, ReadingLaw, MissingLaw, SwitchLaw, ForecastLaw, SliceLaws}
 use Rattle.traces.proofs.Slices.{too-short}
-use Rattle.traces.proofs.Results.{by-code, Works, reads, misses, switches, takes, forecasts-one, forecasts-all, works, reading-code, missed-code, forecast-rejection, forecast-answer}
+use Rattle.traces.proofs.Works.{by-code, Fitting, unlisted, take-period, fitting, Works, reads, misses, switches, takes, forecasts-one, forecasts-all, walks-one, walks-all}
+use Rattle.traces.proofs.Results.{works, reading-code, missed-code, forecast-rejection, forecast-answer}
 
 -- ---- a state that passes stays one
-module _ (s : State) (w : Passing s) where
-  after-reading : (y : ℤ) → stepCode s y ≡ 0 → Passing (afterReading s y)
-  after-reading y z = record { typed = reading-typed s y (w .typed); passes = reading-kept s y (w .typed .cells) z }
+module _ (k : Calendar) (s : State) (w : Passing s) (f : Fitting (s .period) k) where
+  after-reading : (y : ℤ) → stepCodeBy k s y ≡ 0 → Passing (afterReadingBy k s y)
+  after-reading y z =
+      record { typed = reading-typed-by k s y (w .typed); passes = reading-kept-by k s (fitting (s .period) f) (w .passes) y (w .typed .cells) z }
 
-  after-missing : missingCode s ≡ 0 → Passing (afterMissing s)
-  after-missing z = record { typed = record { cells = w .typed .cells; low = w .typed .low }; passes = missing-kept s z }
+  after-missing : missingCode s ≡ 0 → Passing (afterMissingBy k s)
+  after-missing z =
+      record { typed = record { cells = w .typed .cells; low = w .typed .low }; passes = missing-kept-by k s (fitting (s .period) f) (w .passes) z }
 
-  after-take : (y : ℤ) → takeCode s y ≡ 0 → Passing (afterTake s y)
-  unfolding takeCode afterTake
+  after-take : (y : ℤ) → takeCodeBy k s y ≡ 0 → Passing (afterTakeBy k s y)
+  unfolding takeCodeBy afterTakeBy
   after-take y = go (isSentinel y)
     where
-      go : (b : Bool) → cond b (missingCode s) (stepCode s y) ≡ 0 → Passing (cond b (afterMissing s) (afterReading s y))
+      go : (b : Bool) → cond b (missingCode s) (stepCodeBy k s y) ≡ 0 → Passing (cond b (afterMissingBy k s) (afterReadingBy k s y))
       go true = after-missing
       go false = after-reading y
 
-  after-switch : Passing (switched s)
-  after-switch = record { typed = record { cells = w .typed .cells; low = w .typed .low }; passes = checks-kept s ∙ w .passes }
+after-switch : (s : State) → Passing s → Passing (switched s)
+after-switch s w = record { typed = record { cells = w .typed .cells; low = w .typed .low }; passes = checks-kept s ∙ w .passes }
 
-after-run : (ys : List ℤ) (s : State) → Passing s → Passing (run s ys .state)
-unfolding run
-after-run [] s w = w
-after-run (y ∷ ys) s w =
-    by-code (λ b. Passing (cond b (preceded (afterTake s y .level) (run (afterTake s y) ys)) (halted s (takeCode s y)) .state)) (takeCode s y)
-    (λ z. after-run ys (afterTake s y) (after-take s w y z))
-    w
-
-after-batch : (ys : List ℤ) (room : ℕ) (s : State) → Passing s → Passing (batchRun s ys room .state)
-unfolding batchRun
-after-batch ys room s w =
-    by-code (λ b. Passing (cond b (run s ys) (halted s (batchCode s (length ys) room)) .state)) (batchCode s (length ys) room)
-    (λ z. after-run ys s w)
+-- no reading moves m
+after-run : (k : Calendar) (ys : List ℤ) (s : State) → Passing s → Fitting (s .period) k → Passing (runBy k s ys .state)
+unfolding runBy
+after-run k [] s w f = w
+after-run k (y ∷ ys) s w f =
+    by-code (λ b. Passing (cond b (preceded (afterTakeBy k s y .level) (runBy k (afterTakeBy k s y) ys)) (halted s (takeCodeBy k s y)) .state)) (takeCodeBy k s y)
+    (λ z. after-run k ys (afterTakeBy k s y) (after-take k s w f y z) (rw (take-period k s y) f))
     w
 
 stays : (s : State) → Passing s → {q : List ℕ} {r : Result} → Works s q r → Passing (r .state)
-stays s w (reads y n f) = by-code (λ b. Passing (cond b (afterReading s y) s)) n (λ z. after-reading s w y (f z)) w
-stays s w (misses n f) = by-code (λ b. Passing (cond b (afterMissing s) s)) n (λ z. after-missing s w (f z)) w
+stays s w (reads k y n f) =
+    by-code (λ b. Passing (cond b (afterReadingBy k s y) s)) n (λ z. after-reading k s w (f z .0) y (f z .1)) w
+stays s w (misses k n f) = by-code (λ b. Passing (cond b (afterMissingBy k s) s)) n (λ z. after-missing k s w (f z .0) (f z .1)) w
 stays s w (switches n) =
     by-code (λ b. Passing (cond b (switched s) s)) n (λ z. after-switch s w) w
-stays s w (takes ys room) = after-batch ys room s w
+stays s w (takes k ys n f) = by-code (λ b. Passing (cond b (runBy k s ys) (halted s n) .state)) n (λ z. after-run k ys s w (f z)) w
 stays s w (forecasts-one h n v f) = w
 stays s w (forecasts-all h n zs f) = w
+stays s w (walks-one k h n v f) = w
+stays s w (walks-all k h n zs f) = w
 
 counted : (s : State) {q : List ℕ} {r : Result} → Works s q r → length (r .numbers) ≡ filled (r .event)
-counted s (reads y n f) = by-code (λ b. length {A = ℤ} (cond b [] []) ≡ 0) n (λ z. refl) refl
-counted s (misses n f) = by-code (λ b. length {A = ℤ} (cond b [] []) ≡ 0) n (λ z. refl) refl
+counted s (reads k y n f) = by-code (λ b. length {A = ℤ} (cond b [] []) ≡ 0) n (λ z. refl) refl
+counted s (misses k n f) = by-code (λ b. length {A = ℤ} (cond b [] []) ≡ 0) n (λ z. refl) refl
 counted s (switches n) = refl
-counted s (takes ys room) = refl
+counted s (takes k ys n f) = refl
 counted s (forecasts-one h n v f) = by-code (λ b. length (cond b (v ∷ []) []) ≡ cond b 1 0) n (λ z. refl) refl
 counted s (forecasts-all h n zs f) = by-code (λ b. length (cond b zs []) ≡ cond b h 0) n (λ z. ap length (f z) ∙ list-length s h) refl
+counted s (walks-one k h n v f) = by-code (λ b. length (cond b (v ∷ []) []) ≡ cond b 1 0) n (λ z. refl) refl
+counted s (walks-all k h n zs f) = by-code (λ b. length (cond b zs []) ≡ cond b h 0) n (λ z. ap length (f z .1) ∙ list-length-by k s h) refl
 
 pub call-laws : CallLaws
 call-laws s w k =
@@ -144,7 +148,7 @@ module _ (d : List ℕ) (s : State) (w : Holds d s) where
       let r = in-place-is-direct .step s (p .typed) (p .passes) y in
       record {
         code = rw (append-nil (encoded s)) (code-is (λ t. stepCode t y) ∙ sym (r .code));
-        holds = rw (append-nil (encoded s), r .holds) (keeps (λ t. stepCode t y) (λ t. afterReading t y) (after-reading s p y));
+        holds = rw (append-nil (encoded s), r .holds) (keeps (λ t. stepCode t y) (λ t. afterReading t y) (after-reading noChanges s p unlisted y));
       }
 
   missing : MissingLaw d s
@@ -154,7 +158,7 @@ module _ (d : List ℕ) (s : State) (w : Holds d s) where
       let r = in-place-is-direct .missing s (p .typed) (p .passes) in
       record {
         code = rw (append-nil (encoded s)) (code-is missingCode ∙ sym (r .code));
-        holds = rw (append-nil (encoded s), r .holds) (keeps missingCode (λ t. afterMissing t) (after-missing s p));
+        holds = rw (append-nil (encoded s), r .holds) (keeps missingCode (λ t. afterMissing t) (after-missing noChanges s p unlisted));
       }
 
   switch : SwitchLaw d s

@@ -1,14 +1,14 @@
--- How a call works on a state that passes its checks, handed in directly or in place: as a reading, a missing one, a switch, a batch, or a forecast for one horizon or for all.
+-- How each call works, handed in directly or in place.
 use Prim.Native.Nat.{ℕ}
 use mathlib.Core.Path.{_≡_, refl, sym, _∙_, ap}
-use mathlib.Core.Bool.{Bool, true, false, cond}
-use mathlib.Core.List.{List, [], _∷_}
+use mathlib.Core.Bool.{cond}
+use mathlib.Core.List.{List}
 use lib.Dec.{eqb}
 use lib.IntN.{ℤ}
 use lib.ListN.{length, take, drop}
 use lib.Seq.{take-at}
-use borrow.Author.Tests.{eqb-true}
-use Rattle.state.specs.Rejections.{_then_, accepting, outcomeCode, answerCode, answerValue}
+use Rattle.calendars.specs.Calendars.{noChanges}
+use Rattle.state.specs.Rejections.{_then_, outcomeCode, answerCode, answerValue}
 use Rattle.state.specs.States.{Typed, check}
 use Rattle.state.specs.Switching.{switched, switchToEven}
 use Rattle.state.specs.declared.State.{State}
@@ -24,26 +24,11 @@ use Rattle.snapshot.specs.Snapshots.{decoded}
 use Rattle.snapshot.specs.Slices.{inPlaceCode}
 use Rattle.saving.specs.Encoding.{encoded}
 use Rattle.saving.specs.InPlace.{roomCode, rewriteCode, inPlaceStepCode, inPlaceStepBytes, inPlaceMissingCode, inPlaceMissingBytes, inPlaceSwitchBytes, inPlaceForecastCode, inPlaceForecast}
-use Rattle.traces.specs.Calls.{Slice, sliceOf, stateIn, Call, Reading, Missing, Switch, Batch, Forecast, Forecasts, InPlaceReading, InPlaceMissing, InPlaceSwitch, InPlaceForecast, observed, unobserved, untold, series, horizon, horizons, Result, answered, result}
-use Rattle.traces.specs.Scores.{squareIf, batchSquares, squares}
+use Rattle.traces.specs.Calls.{Slice, sliceOf, stateIn, Call, Reading, Missing, Switch, Batch, Forecast, Forecasts, ReadingOn, MissingOn, BatchOn, ForecastOn, ForecastsOn, InPlaceReading, InPlaceMissing, InPlaceSwitch, InPlaceForecast, result}
+use Rattle.traces.specs.Scores.{squares}
 use Rattle.traces.proofs.Slices.{accepted-holds, untouched-holds, rewritten-holds}
-
--- n is a call's rejection, or 0
-pub by-code {ℓ} : (P : Bool → Type ℓ) (n : ℕ) → (n ≡ 0 → P true) → P false → P (eqb n 0)
-by-code P n f g = go (eqb n 0) refl
-  where
-    go : (b : Bool) → eqb n 0 ≡ b → P b
-    go true e = f (eqb-true n 0 e)
-    go false e = g
-
--- with the squares that it adds to the score
-pub data Works (s : State) : List ℕ → Result → Type 0 where
-  reads : (y : ℤ) (n : ℕ) → (n ≡ 0 → stepCode s y ≡ 0) → Works s (squareIf n s y) (answered (cond (eqb n 0) (afterReading s y) s) (observed y) n [])
-  misses : (n : ℕ) → (n ≡ 0 → missingCode s ≡ 0) → Works s [] (answered (cond (eqb n 0) (afterMissing s) s) unobserved n [])
-  switches : (n : ℕ) → Works s [] (record { state = cond (eqb n 0) (switched s) s; event = untold; numbers = [] })
-  takes : (ys : List ℤ) (room : ℕ) → Works s (accepting (batchCode s (length ys) room) (batchSquares s ys) (λ (k : ℕ). [])) (record { state = batchRun s ys room .state; event = series ys (length (batchRun s ys room .levels)); numbers = batchRun s ys room .levels })
-  forecasts-one : (h n : ℕ) (v : ℤ) → (n ≡ 0 → v ≡ forecastOf s h) → Works s [] (answered s (horizon h) n (v ∷ []))
-  forecasts-all : (h n : ℕ) (zs : List ℤ) → (n ≡ 0 → zs ≡ forecastList s h) → Works s [] (answered s (horizons h) n zs)
+use Rattle.traces.proofs.Works.{by-code, unlisted, Works, reads, misses, switches, takes, forecasts-one, forecasts-all}
+use Rattle.traces.proofs.Calendars.{reading-on, missing-on, batch-on, forecast-on, forecasts-on}
 
 -- ---- handed in directly
 pub reading-code : (s : State) (y : ℤ) → answerCode (step s y .residual) ≡ stepCode s y
@@ -56,11 +41,11 @@ missed-code s = outcome-code (missingCode s)
 
 direct-reading : (s : State) (y : ℤ) → Works s (squares s (Reading y)) (result s (Reading y))
 unfolding result squares step
-direct-reading s y = rw (reading-code s y) (reads y (stepCode s y) (λ z. z))
+direct-reading s y = rw (reading-code s y) (reads noChanges y (stepCode s y) (λ z. (unlisted, z)))
 
 direct-missing : (s : State) → Works s (squares s Missing) (result s Missing)
 unfolding result squares missing
-direct-missing s = rw (missed-code s) (misses (missingCode s) (λ z. z))
+direct-missing s = rw (missed-code s) (misses noChanges (missingCode s) (λ z. (unlisted, z)))
 
 direct-switch : (s : State) → Works s (squares s Switch) (result s Switch)
 unfolding result squares switchToEven
@@ -73,8 +58,8 @@ batch-numbers s ys cells =
     take-at (batchRun s ys (length cells) .levels) (drop (length (batchRun s ys (length cells) .levels)) cells) (length (batchRun s ys (length cells) .levels)) refl
 
 direct-batch : (s : State) (ys cells : List ℤ) → Works s (squares s (Batch ys cells)) (result s (Batch ys cells))
-unfolding result squares batch
-direct-batch s ys cells = rw (batch-numbers s ys cells) (takes ys (length cells))
+unfolding result squares batch batchRun
+direct-batch s ys cells = rw (batch-numbers s ys cells) (takes noChanges ys (batchCode s (length ys) (length cells)) (λ z. unlisted))
 
 module _ (limit : ℕ) (s : State) (h : ℕ) where
   pub forecast-answer : forecastCodeTo limit s h ≡ 0 → answerValue (forecastTo limit s h) ≡ forecastOf s h
@@ -131,13 +116,13 @@ module _ (s : State) (full : Typed s) (ok : check s ≡ 0) (slice : Slice) where
   unfolding d result squares inPlaceStepCode inPlaceStepBytes
   in-place-reading y =
       rw (state-after (λ t. stepCode t y) (λ t. afterReading t y) (λ z. (reading-typed s y full, reading-kept s y (full .cells) z)))
-      (reads y (both (λ t. stepCode t y)) (accepts (λ t. stepCode t y)))
+      (reads noChanges y (both (λ t. stepCode t y)) (λ z. (unlisted, accepts (λ t. stepCode t y) z)))
 
   in-place-missing : Works s (squares s (InPlaceMissing slice)) (result s (InPlaceMissing slice))
   unfolding d result squares inPlaceMissingCode inPlaceMissingBytes
   in-place-missing =
       rw (state-after missingCode afterMissing (λ z. (record { cells = full .cells; low = full .low }, missing-kept s z)))
-      (misses (both missingCode) (accepts missingCode))
+      (misses noChanges (both missingCode) (λ z. (unlisted, accepts missingCode z)))
 
   in-place-switch : Works s (squares s (InPlaceSwitch slice)) (result s (InPlaceSwitch slice))
   unfolding d result squares inPlaceSwitchBytes
@@ -158,6 +143,11 @@ works s full ok Switch = direct-switch s
 works s full ok (Batch ys cells) = direct-batch s ys cells
 works s full ok (Forecast limit h) = direct-forecast limit s h
 works s full ok (Forecasts limit h cells) = direct-forecasts limit s h cells
+works s full ok (ReadingOn k y) = reading-on s k y
+works s full ok (MissingOn k) = missing-on s k
+works s full ok (BatchOn k ys cells) = batch-on s k ys cells
+works s full ok (ForecastOn k h) = forecast-on s k h
+works s full ok (ForecastsOn k h cells) = forecasts-on s k h cells
 works s full ok (InPlaceReading slice y) = in-place-reading s full ok slice y
 works s full ok (InPlaceMissing slice) = in-place-missing s full ok slice
 works s full ok (InPlaceSwitch slice) = in-place-switch s full ok slice

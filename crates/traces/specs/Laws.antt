@@ -14,16 +14,18 @@ use Rattle.snapshot.specs.Snapshots.{decoded}
 use Rattle.snapshot.specs.Slices.{inPlaceCode}
 use Rattle.saving.specs.Encoding.{encoded}
 use Rattle.saving.specs.InPlace.{rewriteCode, inPlaceStepCode, inPlaceStepBytes, inPlaceMissingCode, inPlaceMissingBytes, inPlaceSwitchCode, inPlaceSwitchBytes, inPlaceForecastCode, inPlaceForecast}
-use Rattle.traces.specs.Calls.{followed, Call, Reading, Missing, Switch, Forecast, InPlaceReading, InPlaceMissing, InPlaceSwitch, InPlaceForecast, Event, observed, unobserved, untold, series, horizon, horizons, result, sliceOf}
+use Rattle.traces.specs.Calls.{followed, Call, Reading, Missing, Switch, Forecast, InPlaceReading, InPlaceMissing, InPlaceSwitch, InPlaceForecast, Event, observed, unobserved, untold, series, horizon, horizons, horizon-on, horizons-on, result, sliceOf}
 
 -- the cells that a call filled, or the forecast that it answered
 abbrev pub filled : Event → ℕ
-filled (observed y accepted) = 0
-filled (unobserved accepted) = 0
+filled (observed k y accepted) = 0
+filled (unobserved k accepted) = 0
 filled untold = 0
-filled (series ys taken) = taken
+filled (series k ys taken) = taken
 filled (horizon h accepted) = cond accepted 1 0
 filled (horizons h accepted) = cond accepted h 0
+filled (horizon-on k h accepted) = cond accepted 1 0
+filled (horizons-on k h accepted) = cond accepted h 0
 
 -- a state that passes: what a call gets, and what it leaves
 pub record Passing (s : State) : Type 0 where

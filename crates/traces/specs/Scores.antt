@@ -5,36 +5,47 @@ use mathlib.Core.List.{List, [], _∷_, _++_}
 use mathlib.Core.Path.{_≡_}
 use lib.IntN.{ℤ}
 use lib.ListN.{length}
+use Rattle.calendars.specs.Calendars.{Calendar, noChanges}
 use Rattle.integers.specs.Totals.{total}
 use Rattle.state.specs.Rejections.{accepting}
 use Rattle.state.specs.Fixed.{isSentinel}
 use Rattle.state.specs.Scores.{sumOf}
 use Rattle.state.specs.declared.State.{State}
-use Rattle.ets.specs.Steps.{stepCode, squareAt}
-use Rattle.ets.specs.Batches.{takeCode, afterTake, batchCode}
+use Rattle.ets.specs.Steps.{stepCode, squareBy}
+use Rattle.ets.specs.Batches.{takeCodeBy, afterTakeBy, batchCode}
+use Rattle.ets.specs.Calendars.{stepCodeOn, batchCodeOn}
 use Rattle.saving.specs.InPlace.{inPlaceStepCode}
-use Rattle.traces.specs.Calls.{Call, Reading, Missing, Switch, Batch, Forecast, Forecasts, InPlaceReading, InPlaceMissing, InPlaceSwitch, InPlaceForecast, sliceOf, result, after}
+use Rattle.traces.specs.Calls.{Call, Reading, Missing, Switch, Batch, Forecast, Forecasts, ReadingOn, MissingOn, BatchOn, ForecastOn, ForecastsOn, InPlaceReading, InPlaceMissing, InPlaceSwitch, InPlaceForecast, sliceOf, result, after}
 use Rattle.traces.specs.Laws.{Passing}
 
 -- the square of an accepted real reading, of which n is the rejection; none of a rejected one
-abbrev pub squareIf : ℕ → State → ℤ → List ℕ
-squareIf n s y = accepting n (squareAt s y ∷ []) (λ (k : ℕ). [])
+abbrev pub squareIf : ℕ → Calendar → State → ℤ → List ℕ
+squareIf n k s y = accepting n (squareBy k s y ∷ []) (λ (r : ℕ). [])
 
 -- of the readings of a batch until one is rejected: the sentinel is no real reading
-unfoldable pub batchSquares : State → List ℤ → List ℕ
-batchSquares s [] = []
-batchSquares s (y ∷ ys) =
-    accepting (takeCode s y) (cond (isSentinel y) [] (squareAt s y ∷ []) ++ batchSquares (afterTake s y) ys) (λ (k : ℕ). [])
+unfoldable pub batchSquares : Calendar → State → List ℤ → List ℕ
+batchSquares k s [] = []
+batchSquares k s (y ∷ ys) =
+    accepting (takeCodeBy k s y) (cond (isSentinel y) [] (squareBy k s y ∷ []) ++ batchSquares k (afterTakeBy k s y) ys) (λ (r : ℕ). [])
+
+-- of a batch of which n is the rejection before its first reading
+abbrev pub squaresIf : ℕ → Calendar → State → List ℤ → List ℕ
+squaresIf n k s ys = accepting n (batchSquares k s ys) (λ (r : ℕ). [])
 
 -- those of one call
 unfoldable pub squares : State → Call → List ℕ
-squares s (Reading y) = squareIf (stepCode s y) s y
+squares s (Reading y) = squareIf (stepCode s y) noChanges s y
 squares s Missing = []
 squares s Switch = []
-squares s (Batch ys cells) = accepting (batchCode s (length ys) (length cells)) (batchSquares s ys) (λ (k : ℕ). [])
+squares s (Batch ys cells) = squaresIf (batchCode s (length ys) (length cells)) noChanges s ys
 squares s (Forecast limit h) = []
 squares s (Forecasts limit h cells) = []
-squares s (InPlaceReading slice y) = squareIf (inPlaceStepCode (sliceOf s slice) y) s y
+squares s (ReadingOn k y) = squareIf (stepCodeOn k s y) k s y
+squares s (MissingOn k) = []
+squares s (BatchOn k ys cells) = squaresIf (batchCodeOn k s (length ys) (length cells)) k s ys
+squares s (ForecastOn k h) = []
+squares s (ForecastsOn k h cells) = []
+squares s (InPlaceReading slice y) = squareIf (inPlaceStepCode (sliceOf s slice) y) noChanges s y
 squares s (InPlaceMissing slice) = []
 squares s (InPlaceSwitch slice) = []
 squares s (InPlaceForecast slice h old) = []

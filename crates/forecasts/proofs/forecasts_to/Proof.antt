@@ -1,12 +1,15 @@
+use Prim.Native.Nat.{_≤_}
 use mathlib.Core.Path.{_≡_, refl, sym, _∙_}
 use native.Mathlib.Omega.{arith}
 use lib.ListN.{length}
 use borrow.Author.Needs.{needs}
 use borrow.Author.Tests.{ne-eqb, leb-true}
 use Rattle.state.proofs.Passing.{valid}
+use Rattle.ets.proofs.CalendarLaws.{unchanged}
 use Rattle.state.proofs.Tests.{then-zero, unless-zero}
 use Rattle.forecasts.specs.Forecasts.{forecastsCodeTo, forecastsTo, forecastCellsTo}
-use Rattle.forecasts.proofs.ForecastLaws.{forecast-ready}
+use Rattle.forecasts.proofs.ForecastLaws.{Ready, forecast-ready}
+use Rattle.forecasts.proofs.CalendarLaws.{list-unchanged}
 use Rattle.forecasts.proofs.forecasts_to.Statement.{statement}
 use Rattle.forecasts.proofs.forecasts_to.Tie as tie
 
@@ -18,22 +21,27 @@ returns : tie.Need-returns
 unfolding forecastsTo forecastCellsTo
 returns c = rw (← (code (c .before)), ne-eqb _ _ (c .if1 .taken)) (refl, refl)
 
-fill-requires : tie.Need-fill-requires
+ready : (c : tie.Else1) → let s = c .before .before .before .before .args in Ready (s .limit) (s .s) (s .h) × (s .h ≤ length (s .values .now))
 unfolding forecastsCodeTo
+ready c =
+    let z = then-zero _ _ (sym (code (c .before)) ∙ c .if1 .left) in
+    (forecast-ready _ _ _ (z .0), leb-true _ _ (unless-zero _ 11 (z .1)))
+
+fill-requires : tie.Need-fill-requires
 fill-requires c κs =
-    let i = c .before in
-    let s = i .before .before .before .before in
-    let z = then-zero _ _ (sym (code (i .before)) ∙ i .if1 .left) in
-    let r = forecast-ready (s .args .limit) (s .args .s) (s .args .h) (z .0) in
-    (valid _ (r .valid), omega (arith, r .most, s .pre), leb-true _ _ (unless-zero _ 11 (z .1)))
+    let q = c .before .before .before in
+    let s = q .before .before .before .before in
+    let r = ready q in
+    (r .0 .valid, unchanged (s .args .s .period), omega (arith, r .0 .most, s .pre), r .1)
 
 returns-2 : tie.Need-returns-2
 unfolding forecastsTo forecastCellsTo
 returns-2 c =
     let f = c .before in
-    let q = f .before .before in
+    let q = f .before .before .before .before in
     let z = sym (code (q .before)) ∙ q .if1 .left in
-    rw z (refl, f .fill .ensures)
+    let s = q .before .before .before .before .args in
+    rw (z, ← (list-unchanged (s .s) (valid _ (ready q .0 .valid)) (s .h))) (refl, f .fill .ensures)
 
 pub forecasts-to-spec : {M : Type 1} → statement M
 forecasts-to-spec =
@@ -43,6 +51,8 @@ forecasts-to-spec =
     (λ c κs. search needs)
     (λ c κs. search needs)
     returns
+    (λ c. search needs)
+    (λ c. search needs)
     fill-requires
     (λ c. search needs)
     returns-2)

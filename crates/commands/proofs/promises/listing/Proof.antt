@@ -4,7 +4,8 @@ use Rattle.state.specs.Fixed.{R, share}
 use Rattle.integers.specs.Below.{allBelow}
 use Rattle.state.specs.Scores.{sumOf, sumOk}
 use Rattle.state.specs.States.{check, parametersCode, noState}
-use Rattle.ets.specs.Steps.{dampedTrend, seasonDue, residual, newLevel, newTrend, newSeason, newSeasonal, squareOf, scoreAfter, nextIndex, missingCode, stepCode, step}
+use Rattle.calendars.specs.Turns.{nextIndex}
+use Rattle.ets.specs.Steps.{dampedTrend, seasonBy, residual, newLevel, newTrend, newSeason, seasonalBy, squareOf, scoreAfter, missingCode, stepCodeBy, step}
 use Rattle.forecasts.specs.Forecasts.{trendAt, trendLine, seasonAt, forecastOf, forecastCodeTo, forecastTo}
 use Rattle.weights.specs.Weights.{dampingSum, trendTerm, seasonTerm, coefficient, squares, weightOf, errorsCode, weight, variance}
 use Rattle.layout.specs.Bytes.{fromBytes}
@@ -18,7 +19,7 @@ use Rattle.commands.proofs.promises.listing.Statement.{statement}
 use Rattle.commands.proofs.promises.listing.Tie as tie
 
 returns : tie.Need-returns
-unfolding R share allBelow sumOf sumOk check parametersCode noState dampedTrend seasonDue residual newLevel newTrend newSeason newSeasonal squareOf scoreAfter nextIndex missingCode stepCode step trendAt trendLine seasonAt forecastOf forecastCodeTo forecastTo dampingSum trendTerm seasonTerm coefficient squares weightOf errorsCode weight variance fromBytes commandSize isCommand onlyInSnapshot opens dueCode modelCode levelCode scoreCode positionCode scanSeasons scan cellsAt decoded read digits digitCount decimal signedDecimal fieldsBytes lineOf inPlace commandCode operands decode start finish openSnapshot takeReading giveForecast giveVariance perform admit answersIn answersFrom answers lineAfter textOf text
+unfolding R share allBelow sumOf sumOk check parametersCode noState dampedTrend seasonBy residual newLevel newTrend newSeason seasonalBy squareOf scoreAfter nextIndex missingCode stepCodeBy step trendAt trendLine seasonAt forecastOf forecastCodeTo forecastTo dampingSum trendTerm seasonTerm coefficient squares weightOf errorsCode weight variance fromBytes commandSize isCommand onlyInSnapshot opens dueCode modelCode levelCode scoreCode positionCode scanSeasons scan cellsAt decoded read digits digitCount decimal signedDecimal fieldsBytes lineOf inPlace commandCode operands decode start finish openSnapshot takeReading giveForecast giveVariance perform admit answersIn answersFrom answers lineAfter textOf text
 returns c = refl
 
 pub listing-spec : {M : Type 1} → statement M

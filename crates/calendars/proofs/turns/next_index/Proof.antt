@@ -1,8 +1,8 @@
 use borrow.Author.Tests.{lt-ltb, le-ltb}
-use Rattle.ets.specs.Steps.{nextIndex}
+use Rattle.calendars.specs.Turns.{nextIndex}
 use borrow.Author.Needs.{needs}
-use Rattle.ets.proofs.arithmetic.next_index.Statement.{statement}
-use Rattle.ets.proofs.arithmetic.next_index.Tie as tie
+use Rattle.calendars.proofs.turns.next_index.Statement.{statement}
+use Rattle.calendars.proofs.turns.next_index.Tie as tie
 
 returns : tie.Need-returns
 unfolding nextIndex

@@ -1,0 +1,4 @@
+pub mod Calendars
+pub mod Turns
+pub mod Cursors
+pub mod Walks

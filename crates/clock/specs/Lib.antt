@@ -1,0 +1,4 @@
+pub mod Windows
+pub mod Cases
+pub mod Promises
+pub mod Pins

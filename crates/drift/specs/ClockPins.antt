@@ -1,0 +1,141 @@
+-- What keeps demand 3 over clock changes (document 02, W-208) from being read weaker or emptier than it is: claims that fail, the condition of the season's limit, and runs
+-- with where the exact recursion stands and what is compared. Each is computed.
+use Prim.Native.Nat.{ℕ, _+_, _*_, _^_}
+use mathlib.Core.Bool.{true, false}
+use mathlib.Core.List.{List, [], _∷_, _++_}
+use mathlib.Core.Path.{_≡_}
+use lib.IntN.{ℤ, pos, negsuc}
+use lib.ListN.{replicate}
+use Rattle.calendars.specs.Calendars.{calendarOf}
+use Rattle.state.specs.Scores.{noScore}
+use Rattle.state.specs.States.{stateOf}
+use Rattle.state.specs.declared.State.{State}
+use Rattle.forecasts.specs.Forecasts.{forecastOf}
+use Rattle.traces.specs.Calls.{Call, Reading, Batch, ReadingOn, MissingOn, BatchOn, ForecastOn, ForecastsOn, after}
+use Rattle.drift.specs.Exact.{parametersOf, Exact, exponent, opened, exactForecast, level-is, forecast-is}
+use Rattle.drift.specs.Limits.{SeasonalBound, WithinLimit, Opening}
+use Rattle.drift.specs.Pins.{seasonal, plain, standing, ClaimOf, besideFrom, compared}
+
+-- ---- claims that fail: a day with α = 0 and γ = 1, so that its limit is 24 + 48 = 72; l is 72 and L just below 0, and n/2 is 73. With α = 1/2 a level in a cell is 1 from L
+-- at n = 1
+abbrev pub resting : State
+resting = seasonal 24 0 65536 (pos 72) []
+
+abbrev pub below : Exact
+below = standing (negsuc 0) 146 0 (pos 0)
+
+pub record ClocksRefused : Type 0 where
+  -- also where the forecast's own walk meets a list: place 2 is due at count 2, the step of horizon 3
+  pub forecast : ClaimOf resting below (ForecastOn (calendarOf (2 ∷ []) []) 3 ∷ []) → ⊥
+  pub forecasts : ClaimOf resting below (ForecastsOn (calendarOf [] (2 ∷ [])) 3 (replicate 3 (pos 0)) ∷ []) → ⊥
+  pub cell : ClaimOf (seasonal 24 32768 32768 (pos 2) []) (standing (pos 0) 0 0 (pos 0)) (BatchOn (calendarOf (7 ∷ []) []) (pos 0 ∷ pos 0 ∷ []) (replicate 2 (pos 0)) ∷ []) → ⊥
+  -- a listed count at which place 0 is due has no effect, and a forecast after it is compared
+  pub carried : ClaimOf resting below (ReadingOn (calendarOf (0 ∷ []) []) (pos 0) ∷ ForecastOn (calendarOf [] []) 1 ∷ []) → ⊥
+
+-- ---- the condition of the season's limit: no list took effect on an accepted step. Without season none can, and its limit stays
+pub record ClocksNeeded : Type 0 where
+  pub claimed : WithinLimit (parametersOf resting) (pos 73) (forecast-is (pos 0) 1 1 0 0) → ⊥
+  pub unclaimed : (z F : ℤ) (h power : ℕ) → WithinLimit (parametersOf resting) z (forecast-is F h power 0 1)
+  pub seasonless : WithinLimit (parametersOf (plain (pos 0))) (pos 2) (forecast-is (pos 0) 1 1 0 1) → ⊥
+
+-- ---- a run that needs it. Seven days, each of which skips place 2; α = 1/65536 and γ = 1, so that the season's limit is just above 72. Rounding adds half a fixed-point unit to
+-- the level with each of 161 readings; the other places' season values make up for it, but not that of place 2, which no step uses
+abbrev pub wandering : State
+wandering = stateOf true 4 24 1 0 65536 0 (pos 0) (pos 0) (replicate 6 (pos 32768)) 0 0 noScore
+
+-- 23 readings: for places 0, 1, 3 and 4, for place 5, which goes up and down from day to day, and for places 6 to 23. Each is half a reading unit below its forecast, but for
+-- what place 5 goes up or down
+abbrev pub dayOf : ℤ → ℤ → ℤ → List ℤ
+dayOf before at after = replicate 4 before ++ (at ∷ replicate 18 after)
+
+abbrev pub week : List ℤ
+week =
+    dayOf (pos 0) (pos 32768) (pos 0)
+    ++ (dayOf (pos 0) (pos 0) (negsuc 0)
+    ++ (dayOf (negsuc 0) (pos 32767) (negsuc 0)
+    ++ (dayOf (negsuc 0) (negsuc 0) (negsuc 1)
+    ++ (dayOf (negsuc 1) (pos 32766) (negsuc 1)
+    ++ (dayOf (negsuc 1) (negsuc 1) (negsuc 2)
+    ++ dayOf (negsuc 2) (pos 32765) (negsuc 2))))))
+
+unfoldable pub weekOn : List Call
+weekOn = BatchOn (calendarOf (2 ∷ 25 ∷ 48 ∷ 71 ∷ 94 ∷ 117 ∷ 140 ∷ []) []) week (replicate 161 (pos 0)) ∷ []
+
+-- afterwards the forecast for horizon 3, of place 2, is above the limit
+pub record ClocksWander : Type 0 where
+  pub opens : Opening wandering
+  pub readings : besideFrom wandering weekOn .n ≡ 161
+  pub gaps : besideFrom wandering weekOn .missed ≡ 0
+  pub effects : besideFrom wandering weekOn .changed ≡ 7
+  pub place : after wandering weekOn .index ≡ 0
+  pub beyond : let x = besideFrom wandering weekOn in SeasonalBound (parametersOf wandering) (exponent (parametersOf wandering) x + 3) (forecastOf (after wandering weekOn) 3) (exactForecast (parametersOf wandering) x 3) → ⊥
+
+-- ---- runs from place 2 at count 100, with season values 1, 2 and 3 reading units at places 2, 3 and 4, α = 1/4 and γ = 1/2
+abbrev pub day : State
+day = stateOf false 4 24 16384 0 32768 0 (pos 0) (pos 0) (pos 0 ∷ pos 0 ∷ pos 65536 ∷ pos 131072 ∷ pos 196608 ∷ []) 2 100 noScore
+
+-- where the exact recursion stands: p, the count, on how many steps a list took effect, and S at places 2, 3 and 4
+pub record Stands (x : Exact) (p count changed : ℕ) (at2 at3 at4 : ℤ) : Type 0 where
+  pub place : x .p ≡ p
+  pub steps : x .count ≡ count
+  pub effects : x .changed ≡ changed
+  pub second : x .S 2 ≡ at2
+  pub third : x .S 3 ≡ at3
+  pub fourth : x .S 4 ≡ at4
+
+-- after one call, over so many powers
+abbrev pub StandsAfter : Call → (power p changed : ℕ) (at2 at3 : ℤ) → Type 0
+StandsAfter call power p changed at2 at3 = Stands (besideFrom day (call ∷ [])) p 101 changed at2 at3 (pos (196608 * 65536 ^ power))
+
+-- a list of calls: the forecasts' walk skips place 2; place 2 is repeated by a reading and skipped by a missing one; a listed count at which place 4 is due; a count in both
+-- lists (20); 21 missing readings, and place 2 is due again; a batch that repeats it, skips it and goes on; a forecast whose step 22 skips it
+unfoldable pub clocks : List Call
+clocks =
+    ForecastsOn (calendarOf (100 ∷ []) []) 3 (replicate 3 (pos 9))
+    ∷ ReadingOn (calendarOf [] (100 ∷ [])) (pos 5)
+    ∷ MissingOn (calendarOf (101 ∷ []) [])
+    ∷ ReadingOn (calendarOf (102 ∷ []) []) (pos 3)
+    ∷ ReadingOn (calendarOf (103 ∷ []) (103 ∷ [])) (pos 3)
+    ∷ Batch (replicate 21 (negsuc 2147483647)) (replicate 21 (pos 9))
+    ∷ BatchOn (calendarOf (125 ∷ []) (124 ∷ [])) (pos 1 ∷ pos 2 ∷ pos 4 ∷ []) (replicate 3 (pos 9))
+    ∷ ForecastOn (calendarOf (148 ∷ []) []) 22
+    ∷ []
+
+pub record ClocksShown : Type 0 where
+  -- a reading of 6, skipping place 2: S moves at place 3, and p is 4
+  pub skipped : StandsAfter (ReadingOn (calendarOf (100 ∷ []) []) (pos 6)) 2 4 1 (pos (65536 ^ 3)) (pos (4 * 65536 ^ 3))
+  -- repeating it: S moves at place 2, and p is 2
+  pub repeated : StandsAfter (ReadingOn (calendarOf [] (100 ∷ [])) (pos 5)) 2 2 1 (pos (3 * 65536 ^ 3)) (pos (2 * 65536 ^ 3))
+  -- a missing one moves p and the count alone
+  pub missed : StandsAfter (MissingOn (calendarOf (100 ∷ []) [])) 0 4 1 (pos 65536) (pos 131072)
+  -- a count that is not listed, and the same call without lists
+  pub unlisted : StandsAfter (ReadingOn (calendarOf (101 ∷ []) (99 ∷ [])) (pos 5)) 2 3 0 (pos (3 * 65536 ^ 3)) (pos (2 * 65536 ^ 3))
+  pub plain : StandsAfter (Reading (pos 5)) 2 3 0 (pos (3 * 65536 ^ 3)) (pos (2 * 65536 ^ 3))
+  pub opens : Opening day
+  pub holds : ClaimOf day (opened day) clocks
+  -- after all of them: p is the state's, and a list took effect on 4 of 27 steps, of which 22 were missing readings
+  pub stands : Stands (besideFrom day clocks) 5 127 4 (pos (106496 * 65536 ^ 10)) (pos (129024 * 65536 ^ 10)) (pos (211456 * 65536 ^ 10))
+  pub place : after day clocks .index ≡ 5
+  pub gaps : besideFrom day clocks .missed ≡ 22
+  pub compares : compared (parametersOf day) day (opened day) clocks
+      ≡ (
+        pos 131072 ∷ pos 196608 ∷ pos 0 ∷ [],
+        forecast-is (pos (131072 * 65536)) 1 1 0 0 ∷ forecast-is (pos (196608 * 65536 ^ 2)) 2 2 0 0 ∷ forecast-is (pos 0) 3 3 0 0 ∷ [],
+      )
+      ∷ ([], [])
+      ∷ ([], [])
+      ∷ ([], [])
+      ∷ ([], [])
+      ∷ (replicate 21 (pos 49152), replicate 21 (level-is (pos (49152 * 65536 ^ 4)) 2))
+      ∷ (
+        pos 4096 ∷ pos 3072 ∷ pos 26880 ∷ [],
+        level-is (pos (4096 * 65536 ^ 6)) 3 ∷ level-is (pos (3072 * 65536 ^ 8)) 4 ∷ level-is (pos (26880 * 65536 ^ 10)) 5 ∷ [],
+      )
+      ∷ (pos 155904 ∷ [], forecast-is (pos (155904 * 65536 ^ 32)) 22 32 22 4 ∷ [])
+      ∷ []
+
+pub record ClockPins : Type 0 where
+  pub refused : ClocksRefused
+  pub needed : ClocksNeeded
+  pub wander : ClocksWander
+  pub shown : ClocksShown
