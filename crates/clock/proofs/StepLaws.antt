@@ -7,6 +7,11 @@ use lib.Dec.{eqb}
 use lib.IntN.{ℤ}
 use borrow.Author.Tests.{eqb-true, ne-eqb}
 use Rattle.calendars.specs.Calendars.{Calendar, isIn}
+use Rattle.calendars.specs.Walks.{walked, IsTurn}
+use Rattle.calendars.specs.declared.Cursors.{Cursors}
+use Rattle.calendars.specs.declared.Walked.{Walked}
+use Rattle.calendars.proofs.ListLaws.{rises, behind-start}
+use Rattle.calendars.proofs.WalkLaws.{walked-is}
 use Rattle.integers.proofs.Tests.{both, cond-elim}
 use Rattle.state.specs.Rejections.{_then_, bad-calendar}
 use Rattle.state.specs.States.{indexOk, check}
@@ -21,6 +26,13 @@ use Rattle.ets.specs.declared.Stepped.{Stepped}
 use Rattle.ets.specs.declared.Missed.{Missed}
 use Rattle.ets.proofs.CalendarLaws.{followed, placed, turned, placed-check, skips, repeats}
 use Rattle.clock.specs.Cases.{byAnswer, byOutcome}
+
+-- the turn of a call's first step, by the walk from the start of both lists
+pub first-turn : (k : Calendar) (m p n : ℕ) (at : Cursors) (w : Walked) → calendarCode m k ≡ 0 → at ≡ record { skipped = 0; repeated = 0 } → w ≡ walked k at m p n → IsTurn k m p n w
+first-turn k m p n at w z e f =
+    let r = rises (k .skipped) (k .repeated) (followed m k z .lists) in
+    rw (f, e)
+    (walked-is k (record { skipped = 0; repeated = 0 }) m p n (r .0) (r .1) (behind-start (k .skipped) n, behind-start (k .repeated) n))
 
 -- of a day, whatever else the state is
 turned-check : (k : Calendar) (s : State) → s .period ≡ 24 → check (turned k s) ≡ check s

@@ -2,7 +2,7 @@
 -- step without lists, after which p goes back to 2; else that step.
 use mathlib.Core.Path.{_≡_, refl, sym, ap}
 use mathlib.Core.Bool.{Bool, true, false, cond}
-use Prim.Native.Nat.{ℕ, zero, suc, _+_, _<_}
+use Prim.Native.Nat.{ℕ, suc, _<_}
 use native.Mathlib.Omega.{arith}
 use lib.Dec.{eqb}
 use lib.IntN.{ℤ}
@@ -12,12 +12,13 @@ use Rattle.integers.proofs.Tests.{both}
 use Rattle.models.specs.Models.{hasSeason}
 use Rattle.state.specs.States.{indexOk, check}
 use Rattle.state.specs.declared.State.{State}
-use Rattle.state.proofs.Passing.{passed, no-season}
+use Rattle.state.proofs.Passing.{no-season}
 use Rattle.ets.specs.Bounds.{Walkable}
 use Rattle.calendars.specs.Turns.{nextIndex}
 use Rattle.ets.specs.Steps.{dampedTrend, seasonBy, seasonalBy, advanced, stepCodeBy, missingCode, afterReadingBy, afterMissingBy}
 use Rattle.ets.proofs.CalendarLaws.{Followed, walkable, skips, repeats, placed, turned, step-same, missing-same}
-use Rattle.forecasts.specs.Calendars.{indexFrom, placeBy}
+use Rattle.forecasts.specs.Calendars.{placeBy}
+use Rattle.forecasts.proofs.CalendarLaws.{place-ok}
 use Rattle.drift.specs.Exact.{Parameters, Exact, exactDamped, exactResidualBy, exactSeasonBy, exactReadingBy, exactMissingBy}
 
 -- the exact recursion at another place, where a list took effect
@@ -101,15 +102,5 @@ day-seasonal s ok m = go (hasSeason (s .model)) refl
 in-day : (m p : ℕ) → m ≡ 24 → indexOk m p ≡ true → p < m
 in-day m p e h = rw e (ltb-true p 24 (rw e at h))
 
-module _ (k : Calendar) (s : State) (f : Followed (s .period) k) (ok : check s ≡ 0) where
-  index-in : (j : ℕ) → indexOk (s .period) (indexFrom k (s .period) (s .index) (s .count) j) ≡ true
-  unfolding indexFrom
-  index-in zero = passed s ok .index
-  index-in (suc j) = walkable (s .period) k f .next (indexFrom k (s .period) (s .index) (s .count) j) (s .count + j) (index-in j)
-
-  place-ok : (h : ℕ) → indexOk (s .period) (placeBy k s h) ≡ true
-  place-ok zero = passed s ok .index
-  place-ok (suc j) = walkable (s .period) k f .used (indexFrom k (s .period) (s .index) (s .count) j) (s .count + j) (index-in j)
-
-  pub place-in : (h : ℕ) → placeBy k s h < s .period
-  place-in h = in-day (s .period) (placeBy k s h) (f .day) (place-ok h)
+pub place-in : (k : Calendar) (s : State) → Followed (s .period) k → check s ≡ 0 → (h : ℕ) → placeBy k s h < s .period
+place-in k s f ok h = in-day (s .period) (placeBy k s h) (f .day) (place-ok k s ok (walkable (s .period) k f) h)

@@ -81,10 +81,12 @@ module _ (k : Calendar) (s : State) (ok : check s ≡ 0) (w : Walkable k (s .per
   index-in zero = passed s ok .index
   index-in (suc j) = w .next (indexFrom k (s .period) (s .index) (s .count) j) (s .count + j) (index-in j)
 
+  pub place-ok : (h : ℕ) → indexOk (s .period) (placeBy k s h) ≡ true
+  place-ok zero = passed s ok .index
+  place-ok (suc j) = w .used (indexFrom k (s .period) (s .index) (s .count) j) (s .count + j) (index-in j)
+
   pub place-small : (h : ℕ) → placeBy k s h < 48
-  place-small zero = bounded s ok .index
-  place-small (suc j) =
-      small (s .period) _ (bounded s ok .period) (w .used (indexFrom k (s .period) (s .index) (s .count) j) (s .count + j) (index-in j))
+  place-small h = small (s .period) (placeBy k s h) (bounded s ok .period) (place-ok h)
 
   pub walk-start : (at : Cursors) → at ≡ record { skipped = 0; repeated = 0 } → Walking k s 0 (s .index) (s .count) at
   unfolding indexFrom

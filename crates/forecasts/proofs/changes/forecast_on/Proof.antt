@@ -17,7 +17,7 @@ use Rattle.state.specs.Valid.{Bounded}
 use Rattle.state.proofs.Passing.{bounded}
 use Rattle.ets.specs.Calendars.{calendarCode}
 use Rattle.ets.specs.Bounds.{Walkable}
-use Rattle.ets.proofs.CalendarLaws.{followed, walkable}
+use Rattle.ets.proofs.CalendarLaws.{lists-code, followed, walkable}
 use Rattle.forecasts.specs.Forecasts.{trendLine, forecastCode}
 use Rattle.forecasts.specs.Calendars.{forecastBy, forecastCodeOn, forecastOn}
 use Rattle.forecasts.proofs.ForecastLaws.{Ready, forecast-ready}
@@ -43,8 +43,7 @@ module _ (c : tie.After-calendar-ok) where
   ready = forecast-ready 512 (s .args .t1) (s .args .h) accepted
 
   lists : (b : Bool) → c .calendar-ok .result ≡ b → calendarCode (s .args .t1 .period) k ≡ unless b bad-calendar
-  unfolding calendarCode
-  lists b e = rw (← (c .calendar-ok .ensures), e)
+  lists b = lists-code (s .args .t1 .period) k (c .calendar-ok .result) b (c .calendar-ok .ensures)
 
   code : (b : Bool) → c .calendar-ok .result ≡ b → forecastCodeOn k (s .args .t1) (s .args .h) ≡ unless b bad-calendar
   unfolding forecastCodeOn

@@ -8,7 +8,7 @@ use Rattle.calendars.specs.Calendars.{Calendar, calendarOf}
 use Rattle.state.specs.Rejections.{unless, _then_, bad-calendar}
 use Rattle.state.proofs.Tests.{then-zero, unless-zero}
 use Rattle.ets.specs.Calendars.{calendarCode}
-use Rattle.ets.proofs.CalendarLaws.{followed, walkable}
+use Rattle.ets.proofs.CalendarLaws.{lists-code, followed, walkable}
 use Rattle.forecasts.specs.Forecasts.{forecastsCodeTo, forecastsCode}
 use Rattle.forecasts.specs.Calendars.{forecastsCodeOn, forecastsOn, forecastCellsOn}
 use Rattle.forecasts.proofs.ForecastLaws.{forecast-ready}
@@ -43,8 +43,7 @@ module _ (c : tie.After-calendar-ok) where
   accepted = sym (plain (c .before .before)) ∙ c .before .if1 .left
 
   lists : (b : Bool) → c .calendar-ok .result ≡ b → calendarCode (s .args .s .period) k ≡ unless b bad-calendar
-  unfolding calendarCode
-  lists b e = rw (← (c .calendar-ok .ensures), e)
+  lists b = lists-code (s .args .s .period) k (c .calendar-ok .result) b (c .calendar-ok .ensures)
 
   code : (b : Bool) → c .calendar-ok .result ≡ b → forecastsCodeOn k (s .args .s) (s .args .h) (length (s .args .values .now)) ≡ unless b bad-calendar
   unfolding forecastsCodeOn
