@@ -47,7 +47,7 @@ extern "C" {
 #define FORECASTER_OLD_GROUP_LENGTH(m) (46 + 10 * (size_t)(m))
 
 /* The refusals that a call can return; 18 and 19 are of the variance of relative errors, 20 of calls on a calendar of clock
- * changes, and no call here returns them. */
+ * changes, 21 of the program's commands 50 and 51 and of the calls that keep a state, and no call here returns them. */
 enum {
     FORECASTER_ACCEPTED = 0,
     FORECASTER_UNKNOWN_COMMAND = 2, /* The first byte of a command is none of the commands. */
@@ -68,7 +68,8 @@ enum {
     FORECASTER_BAD_SCORE = 17,      /* The readings exceed the count, or the sum readings * 2^52. Checked right after 10. */
     FORECASTER_BAD_SIGMA2 = 18,     /* The bits of sigma^2 exceed those of 1.0. Checked right after 11. */
     FORECASTER_NOT_FINITE = 19,     /* A theta, an S or the variance is not finite. Checked last. */
-    FORECASTER_BAD_CALENDAR = 20    /* A list doesn't rise or shares a count, a window isn't valid, or m isn't 24. */
+    FORECASTER_BAD_CALENDAR = 20,   /* A list doesn't rise or shares a count, a window isn't valid, or m isn't 24. */
+    FORECASTER_NO_CHECKPOINT = 21   /* The name is above 3, or holds no state to bring back. Checked right after 17. */
 };
 
 /* One step: takes the reading, a whole number from -1,000,000 to 1,000,000, into the group's state. An accepted step

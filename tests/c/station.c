@@ -65,7 +65,7 @@ static void all_given(void) {
     what = "refusals";
     for (int call = 0; call < CALLS; call++)
         for (int code = 0; code < 256; code++) {
-            int can = code == 0 || (code <= FORECASTER_BAD_CALENDAR && refusals[call] & BIT(code));
+            int can = code == 0 || (code <= FORECASTER_NO_CHECKPOINT && refusals[call] & BIT(code));
             if (can != (given[call][code] != 0)) {
                 failures++;
                 fprintf(stderr, "%s: %d was %s\n", names[call], code, can ? "never given" : "given");
@@ -559,7 +559,7 @@ static void cuts_and_commands(int outside, int old) {
                         continue;
                     bytes[at] = (uint8_t)first;
                     int low = first & 15, high = first >> 4;
-                    int known = (high == 1 && (low < 6 || low == 8)) || (high == 2 && low < 2) || (high == 3 && low < 3) || first == 0x40;
+                    int known = (high == 1 && (low < 6 || low == 8)) || ((high == 2 || high == 5) && low < 2) || (high == 3 && low < 3) || first == 0x40;
                     int code = known ? FORECASTER_OUT_OF_PLACE : FORECASTER_UNKNOWN_COMMAND;
                     int other = 0; /* the other command that is due there as well */
                     if (at == 0 && first == (st.outside ? 0x10 : 0x18))

@@ -1,9 +1,9 @@
 """Calls that no stream reaches, for the program `calls`: states handed in directly, batches, all horizons, the bedside
 display's forecasts, weights, also by time of day, variances of relative errors, the calls on a calendar of clock changes, short
-slices, groups read from a slice. Nothing here is random.
+slices, groups read from a slice, states kept and brought back. Nothing here is random.
 
 The program reads records and writes a line for each. A record is an operation's byte, the state that the call is made on
-(none where a group is read), and the call's operands; low byte first, signed numbers in two's complement, lengths of 32 bits.
+(none where a group is read or a state brought back), and the call's operands; low byte first, signed numbers in two's complement, lengths of 32 bits.
 
     1 read         a length and as many bytes, with a group at their start
     2 check
@@ -24,13 +24,15 @@ The program reads records and writes a line for each. A record is an operation's
     18 to 22       3 to 7 on a calendar of clock changes (W-208): before the call's operands two lists, each a length, at most 64,
                    and as many step counts of 64 bits: those at which place 2 is skipped, then those at which it is used again
     23 window      the largest forecast of the next 24 steps inside it (W-208): the two lists, then start and end, a byte each
+    24 store       under a name (W-209), a byte, and the length of the byte cells lent
+    25 restore     by a name, a byte: a length and as many bytes, in which the names have their states
 
 A state is a length and as many season cells of 64 bits, the others being 0; 1 where command 18 opened it, or 0, model and m, a byte each; A, B, G, F of 32 bits;
 l and b of 64 bits; p, a byte; count, the score's readings, high and low word (W-204), of 64 bits each.
 
 A line is the operation, the refusal or 0, and what the call gives, each number before a blank; a byte is a number. A step, a
 missing reading, a batch, a switch and a read give a state, with all its season cells after the score; 18 to 22 give what 3 to 7
-do, and 23 what 6 does; a save gives the bytes that the state needs or its refusal; a read gives, after the state, the refusal
+do, and 23 what 6 does; 25 gives a state; a save gives the bytes that the state needs or its refusal; a read gives, after the state, the refusal
 once more and the rest of the bytes, which after a refusal begins with the refused command. The cells lent stand last. They
 start as 77, so that what a call leaves untouched is seen. A double is the unsigned number of its 64 bits.
 """
@@ -41,7 +43,7 @@ import forecaster as f
 from forecaster import State
 from streams import BAD_SIGMA2S, C, COUNTS, MODELS, ONE, PARAMETERS, RELATIVES, SIGMA2S, TO_EVEN, V, VALUES, WORD32, WORD64, cells, edge_gains, edge_scores, near_zero, nominal, old, opened, overflowing, scored
 
-READ, CHECK, STEP, MISSING, BATCH, FORECAST, FORECASTS, WEIGHT, VARIANCE, SAVE, DISPLAY_FORECAST, DISPLAY_FORECASTS, SWITCH, SWITCH_IN_PLACE, WEIGHT_GROUPS, RELATIVE_VARIANCE, COEFFICIENTS, STEP_ON, MISSING_ON, BATCH_ON, FORECAST_ON, FORECASTS_ON, WINDOW = range(1, 24)
+READ, CHECK, STEP, MISSING, BATCH, FORECAST, FORECASTS, WEIGHT, VARIANCE, SAVE, DISPLAY_FORECAST, DISPLAY_FORECASTS, SWITCH, SWITCH_IN_PLACE, WEIGHT_GROUPS, RELATIVE_VARIANCE, COEFFICIENTS, STEP_ON, MISSING_ON, BATCH_ON, FORECAST_ON, FORECASTS_ON, WINDOW, STORE, RESTORE = range(1, 26)
 UNTOUCHED = 77
 LIST_LIMIT = 64  # counts of a list that the program has room for
 
@@ -217,6 +219,20 @@ class Script:
         except f.Rejected as r:
             x, used, code = State(model=255), r.offset, r.code
         self.record(READ, numbers(4, len(data)) + data, [code, *state_numbers(x), code, *data[used:]])
+
+    def store(self, name, room):
+        filled = bytearray([UNTOUCHED] * room)
+        found = attempted(lambda: f.store(self.state, name, filled) or [])
+        self.play(STORE, numbers(1, name) + numbers(4, room), [*found, *filled])
+        return bytes(filled)
+
+    def restore(self, name, data):
+        code, x = 0, State(model=255)
+        try:
+            x = f.restore(name, data)
+        except f.Rejected as r:
+            code = r.code
+        self.record(RESTORE, numbers(1, name) + numbers(4, len(data)) + data, [code, *state_numbers(x)])
 
     def everything(self):
         """Each call on the state, with operands that would pass."""
@@ -897,9 +913,51 @@ def windows(t):
         t.forecast_on(512)
 
 
+NAMES_ROOM = f.NAMES * f.LONGEST_GROUP
+
+
+def names(t):
+    """W-209: states of every kind kept in each name of cells that held nothing; names above 3, cells on both sides of their length
+    and states that do not pass, with the order of their refusals. Then the names of cells that hold states, old groups, groups cut
+    short or damaged, a group that only the next name's bytes would finish, and nothing; names above 3; cells one byte short."""
+    longest = State(model=5, m=48, A=16384, B=8192, G=16384, F=65536, l=V, b=-V, s=tuple(V - k for k in range(48)), p=47, count=C, readings=C, high=2**36 - 1, low=WORD64)
+    states = [State(A=32768), nominal(0x4E), longest, opened(replace(nominal(5), A=100, B=200))]
+    kept = bytearray(NAMES_ROOM)
+    for k, x in enumerate(states):
+        t.use(x)
+        t.store(k, NAMES_ROOM)
+        f.store(x, k, kept)
+    for k in range(4):
+        t.restore(k, bytes(kept))
+        t.restore(k, bytes(kept[:-1]))
+        t.restore(k, bytes(NAMES_ROOM))
+    t.restore(3, bytes(kept) + bytes(9))
+    for k in (4, 5, 128, 255):
+        t.restore(k, bytes(kept))
+    for x in (State(A=32768), State(model=3), State(l=V + 1), State(count=C + 1), State(readings=1), nominal(0x4E)):
+        t.use(x)
+        for k, room in (0, NAMES_ROOM - 1), (3, 0), (4, NAMES_ROOM - 1), (255, 40), (1, 700):
+            t.store(k, room)
+    t.use(nominal(2))
+    t.store(1, NAMES_ROOM + 9)
+    t.store(4, NAMES_ROOM)
+    # What stands in a name is read as any group is, and no further than the name's own bytes.
+    whole, plain = f.group_bytes(longest), f.group_bytes(State(A=32768))
+    for data in (old(nominal(4)), plain[:-1], plain[:40], plain[:36] + b"\x16" + plain[37:], b"\x11" + plain[1:], whole[:-1] + b"\x00", whole):
+        for k in (0, 2, 3):
+            cells = bytearray([0x77]) * NAMES_ROOM
+            cells[k * f.LONGEST_GROUP : k * f.LONGEST_GROUP + len(data)] = data
+            t.restore(k, bytes(cells[:NAMES_ROOM]))
+    # A group that begins a byte late would end in the next name.
+    cells = bytearray(NAMES_ROOM)
+    cells[1 : 1 + len(whole)] = whole
+    t.restore(0, bytes(cells))
+    t.restore(1, bytes(cells))
+
+
 def script():
     t = Script()
-    for part in (refused_states, first_fault, steps, batches, horizons, weights_by_index, relative_variances, relative_errors, coefficients, groups, outside_region, rules, scores, lent, clock_changes, calendar_refusals, calendar_batches, calendar_forecasts, windows):
+    for part in (refused_states, first_fault, steps, batches, horizons, weights_by_index, relative_variances, relative_errors, coefficients, groups, outside_region, rules, scores, lent, clock_changes, calendar_refusals, calendar_batches, calendar_forecasts, windows, names):
         part(t)
     return t
 

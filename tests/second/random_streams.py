@@ -23,6 +23,8 @@ EDGES = {
     0x15: [[0, 1, 2, 4096, C, C + 1, WORD64], [0, 1, 2**36, WORD64], [0, 1, f.SQUARE_LIMIT, f.SQUARE_LIMIT + 1, WORD64]],
     0x21: [],
     0x40: [],
+    0x50: [[0, 1, 2, 3, 4, 255]],
+    0x51: [[0, 1, 2, 3, 4, 255]],
 }
 
 
@@ -87,11 +89,19 @@ def sigma2(rng):
     return rng.choice([*SIGMA2S, rng.randint(0, ONE), *[f.bits(rng.random())] * 9, rng.getrandbits(64)])
 
 
-def command(rng, reading_limit, relative):
-    """A command outside a group, with operands that pass; the variance is now and then that of the other errors (W-205)."""
-    kind = rng.choice([0x20] * 6 + [0x14, 0x21, 0x30, 0x30, 0x31, 0x40])
+def name(rng, held):
+    """A name for 50, or for 51 one of those that hold a state where any does; now and then any, or a byte that is none (W-209)."""
+    return rng.choice([0, 1, 2, 3, 4, 255] if rng.random() < 0.02 else held)
+
+
+def command(rng, reading_limit, relative, kept):
+    """A command outside a group, with operands that pass; the variance is now and then that of the other errors (W-205). `kept`
+    are the names that hold a state."""
+    kind = rng.choice([0x20] * 6 + [0x14, 0x21, 0x30, 0x30, 0x31, 0x40, 0x50, 0x51])
     if kind == 0x31 and relative != (rng.random() < 0.02):
         kind = 0x32
+    if kind == 0x51 and not kept and rng.random() < 0.98:
+        kind = 0x50
     horizon = lambda: rng.choice([1, 2, 3, rng.randint(1, 60), rng.randint(1, 512), 512])
     if kind == 0x20:
         return (kind, signed(rng, reading_limit))
@@ -101,12 +111,14 @@ def command(rng, reading_limit, relative):
         return (kind, horizon(), magnitude(rng, 2**32 - 1))
     if kind == 0x32:
         return (kind, horizon(), sigma2(rng))
+    if kind in (0x50, 0x51):
+        return (kind, name(rng, list(kept) if kind == 0x51 and kept else range(f.NAMES)))
     return (kind,)
 
 
 def commands(rng):
     """One or more groups, each with commands after it; some of them are the group that a save would write there."""
-    found = []
+    found, kept = [], {}  # kept: of each name that holds a state, whether its errors are relative
     for turn in range(rng.choice([1, 1, 1, 2, 3])):
         x = None
         if turn > 0 and rng.random() < 0.5:
@@ -114,7 +126,14 @@ def commands(rng):
         x = x or state(rng)
         found += group(rng, x)
         limit = rng.choice([3, 30, 3000, f.READING_LIMIT])
-        found += [command(rng, limit, x.relative) for _ in range(rng.choice([0, 1, 3, 8, 20, 60]))]
+        relative = x.relative
+        for _ in range(rng.choice([0, 1, 3, 8, 20, 60])):
+            found.append(command(rng, limit, relative, kept))
+            byte, *operands = found[-1]
+            if byte == 0x50:
+                kept[operands[0]] = relative
+            if byte == 0x51:
+                relative = kept.get(operands[0], relative)
     return found
 
 

@@ -1,11 +1,12 @@
 """Document 01's station cases T1 to T12, T1 by the other rounding rule (W-211), the score of T5 and T6 and in their groups
-(W-204), T3 and T5 with relative errors (W-205), and clock changes (W-208), of the second implementation."""
+(W-204), T3 and T5 with relative errors (W-205), clock changes (W-208), and T5 kept and brought back (W-209), of the second
+implementation."""
 
 from dataclasses import replace
 
 import forecaster as f
 from forecaster import State
-from streams import cells, old
+from streams import cells, join, old
 
 
 def code(call, *arguments):
@@ -69,4 +70,16 @@ def hold():
     yield "20, a list", [code(f.missing_on, hourly, *lists) for lists in (([7], [8]), ([7, 7], []), ([], [8, 7]), ([7], [7]))] == [0, 20, 20, 20]
     yield "20, another season", [code(f.missing_on, x, [], []) for x in (first, seasonal)] == [20, 20]
     yield "20, a window", [code(f.window_maximum, hourly, [7, 30], [], *window) for window in ((2, 3), (2, 4), (24, 0), (0, 24))] == [20, 0, 20, 20]
+    # T5 is kept; then come a reading, a missing one, the other rule and another group; then T5 is brought back, and what follows is
+    # answered as if all between had never come.
+    start, asked = [f.group_bytes(seasonal), (0x20, 5)], [(0x30, 2), (0x20, 9), (0x40,)]
+    between = [(0x20, -7), (0x21,), (0x14,), f.group_bytes(straight), (0x20, 3)]
+    yield "W-209, back", f.play(join(*start, (0x50, 3), *between, (0x51, 3))) == (["O 4 2", "E 262144", "E -458752", "M", "O 1 0", "E 131072", "N 1"], after5)
+    yield "W-209, as if nothing came", f.play(join(*start, (0x50, 3), *between, (0x51, 3), *asked))[0][6:] == f.play(join(*start, *asked))[0][2:]
+    yield "21", [f.play(join(*start, (0x50, 3), c))[0][2:] for c in ((0x50, 4), (0x51, 4), (0x51, 2), (0x51, 3))] == [["X 21 98"]] * 3 + [["N 1"]]
+    lent = bytearray(b"M" * 2205)
+    f.store(after5, 3, lent)
+    yield "W-209, by value", lent == b"M" * 1653 + f.group_bytes(after5) + b"M" * 461 and f.restore(3, lent) == after5
+    yield "21, by value", [code(f.store, after5, 4, lent), code(f.restore, 4, lent), code(f.restore, 2, lent), code(f.restore, 3, lent[:2203])] == [21] * 4
+    yield "12, by value", [code(f.store, after5, 3, lent[:room]) for room in (2203, 2204)] == [12, 0]
     yield "T12", code(f.step, State(model=1, F=65536, l=2**40, b=2**40), 1_000_000) == 15

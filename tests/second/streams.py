@@ -4,6 +4,7 @@ can come, long runs, the longest inputs, saves reopened. Nothing here is random,
 A stream is a list of commands (byte, operands ..) or of bytes, joined by `join`.
 """
 
+import itertools
 from dataclasses import replace
 
 import forecaster as f
@@ -14,7 +15,7 @@ WORD32 = 2**32 - 1
 LOW64, HIGH64 = -(2**63), 2**63 - 1
 WORD64 = 2**64 - 1
 
-UNKNOWN = [0x00, 0x01, 0x0F, 0x16, 0x17, 0x19, 0x1F, 0x22, 0x2F, 0x33, 0x3F, 0x41, 0x80, 0xFF]
+UNKNOWN = [0x00, 0x01, 0x0F, 0x16, 0x17, 0x19, 0x1F, 0x22, 0x2F, 0x33, 0x3F, 0x41, 0x4F, 0x52, 0x80, 0xFF]
 MODELS = [0, 1, 2, 4, 5, 6]
 TO_EVEN = [model | f.EVEN for model in MODELS]
 RELATIVES = [model | f.RELATIVE for model in MODELS]
@@ -448,6 +449,92 @@ def relative():
         yield join(f.group_bytes(x), (0x32, 512, SIGMA2S[0]), (0x32, 512, 0))
 
 
+def holiday(model):
+    """W-209: a state of the model, and commands that move every number of it that can move, its rounding rule too."""
+    # The second reading's square carries into the high word.
+    x = replace(tied(model), high=0, low=WORD64 - 9_999)
+    return x, [(0x20, 26), (0x14,), (0x20, 30_000), (0x21,), (0x20, -9)]
+
+
+def four():
+    """W-209: four states, of both errors, rules and openers, each kept under its name after a reading."""
+    states = nominal(0), tied(9), nominal(6 | f.EVEN, 3), opened(replace(nominal(5), A=100, B=101))
+    return [part for k, x in enumerate(states) for part in (f.group_bytes(x), (0x20, 20 + k), (0x50, k))]
+
+
+def kept_states():
+    """W-209: 50 and 51 by every model, what is kept being all of the state; the four names in all orders, replaced, brought back
+    twice, copied; groups of three lengths under one name; names that hold nothing, also right after a stream that held all four."""
+    for k, model in enumerate(MODELS + RELATIVES):
+        x, between = holiday(model)
+        first, later = [f.group_bytes(x), *readings(4)], [(0x40,), *questions(model), *readings(5), (0x40,)]
+        here, there = (vars(f.play(join(*first, *c))[1]) for c in ([], between))
+        moved = {name for name in here if here[name] != there[name]}
+        assert moved == {"model", "l", "count", "readings", "high", "low"} | ({"b"} if x.trend else set()) | ({"s", "p"} if x.m else set())
+        keep, back = (0x50, k % f.NAMES), (0x51, k % f.NAMES)
+        yield join(*first, keep, *between, (0x40,), back, *later, back)
+        # Another group in between: with the other errors and season, or the other rounding rule.
+        yield join(*first, keep, f.group_bytes(nominal(model ^ f.RELATIVE ^ 4, 5)), *readings(2), back, *later, back)
+        yield join(f.group_bytes(replace(x, model=model | f.EVEN)), *readings(2), keep, *first, back, *later, back)
+    # By 18 where 10's group stands, and the reverse; an old group, which is saved in the new form.
+    usual, outside = (f.group_bytes(opened(replace(nominal(6), B=B))) for B in (5000, 20001))
+    assert (usual[0], outside[0]) == (0x10, 0x18)
+    for one, other in (usual, outside), (outside, usual):
+        yield join(one, (0x20, 20), (0x50, 1), other, (0x20, 21), (0x40,), (0x51, 1), (0x40,), (0x20, 22), (0x40,))
+        yield join(one, (0x50, 1), other, (0x50, 2), (0x51, 1), (0x50, 3), (0x51, 2), (0x40,), (0x51, 3), (0x40,))
+    for model in (0, 14):
+        group = old(nominal(model, 3))
+        yield join(group, (0x50, 0), *readings(3), (0x51, 0), (0x40,), *readings(3), (0x40,))
+        yield join(group, *readings(3), (0x50, 0), group, (0x40,), (0x51, 0), (0x40,))
+    for order in itertools.permutations(range(f.NAMES)):
+        yield join(*four(), *[c for k in order for c in ((0x51, k), (0x20, 19), (0x40,))], *[c for k in order for c in ((0x51, k), (0x40,))])
+    group, all_saved = f.group_bytes(nominal(0)), [c for k in range(f.NAMES) for c in ((0x51, k), (0x40,))]
+    for k in range(f.NAMES):
+        other = (k + 1) % f.NAMES
+        yield join(group, (0x50, k), (0x20, 25), (0x50, k), (0x20, 9), (0x51, k), (0x40,))
+        yield join(group, (0x50, k), (0x51, k), *readings(3), (0x51, k), (0x40,), *readings(2, 9), (0x51, k), (0x51, k), (0x40,))
+        yield join(group, (0x50, k), (0x20, 30), (0x50, other), (0x51, k), (0x50, other), (0x20, 5), (0x51, other), (0x40,))
+        yield join(*four(), (0x51, other), (0x20, 30), (0x50, k), *all_saved)
+        yield join(*four(), (0x51, k), (0x50, k), (0x50, other), (0x20, 30), *all_saved)
+        # No name holds anything at first, whatever the stream before this one kept.
+        yield join(group, (0x51, k))
+        yield join(group, *[(0x50, j) for j in range(f.NAMES) if j != k], (0x20, 20), (0x51, k))
+    # A new group empties no name; one that is refused ends the stream.
+    yield join(*four(), group, (0x40,), group, *all_saved)
+    yield join(*four(), f.group_bytes(replace(nominal(0), p=1)), *all_saved)
+    # Groups of 71, 91 and 551 bytes under one name, and the longest under all names.
+    for states in itertools.permutations((nominal(2), nominal(5), nominal(6, 48))):
+        yield join(*[c for x in states for c in (f.group_bytes(x), (0x50, 2))], (0x21,), (0x51, 2), (0x40,))
+    for order in (0, 1, 2, 3), (3, 2, 1, 0):
+        yield join(f.group_bytes(nominal(6, 48)), *[c for k in order for c in ((0x20, 20 + k), (0x50, k))], *all_saved)
+    # The count comes back too: its limit is met again, or not any more.
+    full, last, plain = (f.group_bytes(replace(nominal(1), count=count)) for count in (C, C - 1, 5000))
+    yield join(last, (0x50, 0), (0x20, 3), (0x51, 0), (0x21,), (0x51, 0), (0x20, 3), (0x20, 3))
+    yield join(full, (0x50, 0), plain, (0x20, 3), (0x51, 0), (0x30, 1), (0x20, 3))
+    yield join(plain, (0x50, 0), full, (0x51, 0), (0x20, 3), (0x40,))
+
+
+def bad_names():
+    """W-209: a byte above 3 where no name holds a state and where all do; 3 before 4 and before 21: where no state is open, and
+    at each place inside a group of both forms, also where the name holds a state."""
+    group = f.group_bytes(nominal(0))
+    held = join(group, *[(0x50, k) for k in range(f.NAMES)], (0x20, 20))
+    forms = [[c for c in f.group(nominal(4)) if c[0] not in left_out] for left_out in ((), (0x15,))]
+    for command in (0x50, 0x51):
+        for byte in (4, 7, 128, 131, 252, 255):
+            yield join(group, (command, byte))
+            yield join(held, (command, byte), (0x40,))
+        for byte in (0, 3, 4, 255):
+            yield join((command, byte), group)
+        yield join(held, bytes([command]))
+        for parts in forms:
+            for at in range(1, len(parts)):
+                for before in (b"", held):
+                    yield join(before, *parts[:at], (command, 0), *parts[at:])
+            yield join(held, *parts[:-1], (command, 4))
+            yield join(held, *parts[:-1], bytes([command]))
+
+
 def places():
     """At every command of a stream: each unknown byte of a list, and each command byte in the place of the right one.
 
@@ -489,11 +576,12 @@ def saves():
 
 def damaged():
     """One byte of a short stream changed, at every place: its lowest bit, its highest, and set to 0 and 255. Of a relative
-    model's only the bytes of command 32 are (W-205)."""
-    group = f.group_bytes(nominal(14))
+    model's only the bytes of command 32 are (W-205), and of one with 50 and 51 those after its group (W-209)."""
+    group, plain = f.group_bytes(nominal(14)), f.group_bytes(nominal(0))
     for stream, start in (
         (join(f.group_bytes(nominal(6)), (0x20, 19), (0x21,), (0x30, 3), (0x31, 2, 4), (0x40,)), 0),
         (join(group, (0x32, 2, SIGMA2S[0])), len(group)),
+        (join(plain, (0x50, 1), (0x20, 19), (0x51, 1), (0x40,)), len(plain)),
     ):
         for at in range(start, len(stream)):
             byte = stream[at]
@@ -513,6 +601,8 @@ def cut():
     # 4 of the variance that the model has, 3 of the other (W-205).
     yield join(f.group_bytes(nominal(0)), (0x31, 2, 4), (0x32, 2, SIGMA2S[0]))
     yield join(f.group_bytes(nominal(14)), (0x20, 20), (0x32, 2, SIGMA2S[0]), (0x14,), (0x31, 2, 4))
+    # 4 of a command that names a state, also where the name holds none (W-209).
+    yield join(f.group_bytes(nominal(4)), (0x50, 1), (0x20, 20), (0x51, 1), (0x50, 3), (0x20, 21), (0x51, 3), (0x40,), (0x51, 0))
 
 
 def long_runs():
@@ -550,9 +640,15 @@ def longest():
         yield whole + b"\x21"
     yield whole + b"\xff"
     yield whole + whole
+    # 50 and 51 all along, of the shortest group and the longest (W-209).
+    for x in (nominal(0), nominal(6, 48)):
+        group = f.group_bytes(x)
+        rest = f.INPUT_LIMIT - len(group) - 2
+        names = [c for k in range(rest // 5) for c in ((0x21,), (0x50, k % 3), (0x51, 3 if k % 7 == 0 else k // 2 % 3))]
+        yield join(group, (0x50, 3), *names, *[(0x21,)] * (rest % 5))
 
 
-PLAYED = [document, models, edges, operands, order, gaps, even, scores, squares, old_groups, leaving, region, relative, places, saves, damaged, long_runs]
+PLAYED = [document, models, edges, operands, order, gaps, even, scores, squares, old_groups, leaving, region, relative, kept_states, bad_names, places, saves, damaged, long_runs]
 
 
 def records():

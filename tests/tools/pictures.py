@@ -23,9 +23,9 @@ class Picture:
         self.tolerance = abs(self.value(0.15) - self.value(0))  # coordinates have a tenth of a pixel, the axis too
 
     def points(self, kind):
-        """The points of the first path of the kind."""
-        path = next((e.get("d") for e in self.root.iter(SVG + "path") if e.get("class") == kind), "")
-        return [(float(x), float(y)) for x, y in re.findall(r"(-?[\d.]+),(-?[\d.]+)", path)]
+        """The points of the paths of the kind."""
+        paths = " ".join(e.get("d") for e in self.root.iter(SVG + "path") if e.get("class") == kind)
+        return [(float(x), float(y)) for x, y in re.findall(r"(-?[\d.]+),(-?[\d.]+)", paths)]
 
     def count(self, kind):
         return sum(e.get("class") == kind for e in self.root.iter())
@@ -44,12 +44,22 @@ def second(text_stream):
     """Readings, levels and residuals of a stream, those of relative errors as shares of their forecasts, and the state after it, by
     the second implementation."""
     x, at = f.read_group(text_stream)
-    readings, levels, residuals = [], [], []
+    readings, levels, residuals, kept = [], [], [], {}
     while at < len(text_stream):
-        reading, switch = text_stream[at] == 0x20, text_stream[at] == 0x14
+        byte = text_stream[at]
+        if byte == 0x10:
+            (x, at), residuals = f.read_group(text_stream, at), []
+            continue
+        reading = byte == 0x20
         found, at = f.operands(text_stream, at, lambda c: True)
-        if switch:
+        if byte == 0x14:
             x = f.switch_to_even(x)
+            continue
+        if byte == 0x50:
+            kept[found[0]] = x, list(residuals)
+            continue
+        if byte == 0x51:
+            x, residuals = kept[found[0]][0], list(kept[found[0]][1])
             continue
         if reading:
             x, e = f.step(x, *found)
@@ -157,6 +167,28 @@ def switched(folder):
     check_numbers(folder, "model damped alpha 0.5 beta 0.25 phi 0.5\nl 7\nb 3\nreading 5\neven\nreading 7\nmissing\neven\nreading 6\n", 1, 60)
 
 
+HOLIDAY = "keep 1\nreading 29\nmodel {} none alpha 0.25\nlevel 26\nkeep 0\nreading 31\nreading 28\nback 1\nreading 21\nmissing\nback 0\nreading 27\nreading 24\n{}"
+
+
+@case("plot: states kept and brought back: every reading, the level of the state that stands, the residuals of the one at the end")
+def brought_back(folder):
+    for kinds in (("", ""), ("even ", "relative "), ("relative ", "even")):
+        start = f"scale 10\nmodel {kinds[0]}damped alpha 0.5 beta 0.25 phi 0.5\nlevel 20\ntrend 0.5\nreading 22\nreading 19\n"
+        for last, many in (("", 2), ("back 1\n", 2), ("back 1\nreading 23\nreading 20.5\n", 4), ("back 0\nreading 23\nmissing\nkeep 3\n", 1)):
+            picture, readings = check_numbers(folder, start + HOLIDAY.format(kinds[1], last), 10, 30)
+            same(picture.count("level"), 4 + (last.count("reading") > 0), "lines of the level")
+            holds(any(text.endswith(f": root mean square of {many} residual{'s' * (many != 1)}") for text in picture.texts()), f"{many}: {picture.texts()}")
+
+
+@case("plot: a state kept and brought back 15,000 readings later, in another run")
+def long_holiday(folder):
+    start = "model none alpha 0.1\nlevel 50\nreading 48\nreading 51\nkeep 2\n"
+    text = start + "".join(f"reading {k * k % 101}\n" for k in range(15000)) + "back 2\nreading 52\nmissing\n"
+    picture, readings = check_numbers(folder, text, 1, 24)
+    same((picture.count("level"), len(readings)), (2, 15004), "lines of the level, and readings")
+    holds(any(text.endswith(": root mean square of 3 residuals") for text in picture.texts()), f"{picture.texts()}")
+
+
 @case("plot: 15,000 readings, more than one run takes")
 def long(folder):
     text = "model none alpha 0.1\nlevel 50\n" + "".join(f"reading {k * k % 101}\n" for k in range(15000))
@@ -243,6 +275,11 @@ WRONG = [
     ("a refused score", "model none\nlevel 5\nscore 1 0 0\nreading 5\n", [], 1, "day.txt, line 1: the score has more readings than the count, or a sum above its readings times 2^52"),
     ("a refused forecast", "model none\nreading 5\nforecast 0\n", [], 1, "day.txt, line 3: the horizon is outside 1 to 512"),
     ("a refused variance", "model relative none\nreading 5\nvariance 1 4\n", [], 1, "day.txt, line 3: the command is out of place, or asks for a variance that the model's errors do not have"),
+    ("a name above 3", "model none\nkeep 3\nreading 5\nkeep 4\nreading 6\n", [], 1, "day.txt, line 4: the name is above 3, or holds no state to bring back"),
+    ("a name that holds nothing", "model none\nkeep 1\nreading 5\neven\nback 0\nsave\n", [], 1, "day.txt, line 5: the name is above 3, or holds no state to bring back"),
+    ("a refused reading after a name", "model none\nkeep 1\nreading 5\nback 1\nreading 1000001\n", [], 1, "day.txt, line 5: the reading is out of range"),
+    ("a name before a state", "keep 1\nmodel none\n", [], 2, "day.txt: the first command opens no state"),
+    ("a name that was cut", "model none\nreading 5\nbytes 50\n", [], 2, "day.txt, line 3: from here on the bytes are no commands"),
     ("a variance that leaves the doubles", "model relative straight alpha 1 beta 1\nlevel 16777216\ntrend 16777216\n", ["--horizon", "512", "--sigma2", "1"], 1,
      "day.txt, horizon 376: the variance, or a number on the way to it, is too large for a double"),
     ("a relative σ² above 1", "model relative none\nreading 5\n", ["--sigma2", "1.5"], 2, "--sigma2 1.5 is above 1, and the errors are relative"),

@@ -15,6 +15,7 @@ PLACE = "the command is out of place, or asks for a variance that the model's er
 SIGMA2 = "the variance of the relative residuals is not a number from 0 to 1"
 LARGE = "the variance, or a number on the way to it, is too large for a double"
 SCORE = "the score has more readings than the count, or a sum above its readings times 2^52"
+NAME = "the name is above 3, or holds no state to bring back"
 
 
 def table(*rows):
@@ -125,6 +126,74 @@ SHOWN = [
             (2, "even", "", EVEN),
             (3, "reading 1000001", "X 13 72", "the reading is out of range"),
             "line 4 was not played",
+        ),
+    ),
+    (
+        "a state kept and brought back, each with a row and no line",
+        "scale 10\nmodel none alpha 0.5\nreading 1\nkeep 2\nreading 5\neven\nback 2\nsave\nscale 1\nreading 6\nforecast 1\nback 2\n",
+        0,
+        table(
+            (2, "model none alpha 0.5", "O 0 0", OPENED),
+            (3, "reading 1", "E 655360", "residual 1"),
+            (4, "keep 2", "", "no line; the state is kept as 2"),
+            (5, "reading 5", "E 2949120", "residual 4.5"),
+            (6, "even", "", EVEN),
+            (7, "back 2", "", "no line; the state kept as 2 stands again"),
+            (8, "save", "S 10000000800000000000000000000000000...", "saved, 71 bytes; root mean square 1 over 1 reading"),
+            (10, "reading 6", "E 65536", "residual 1"),
+            (11, "forecast 1", "F 1 360448", "forecast 5.5 for horizon 1"),
+            (12, "back 2", "", "no line; the state kept as 2 stands again"),
+            ("", "", "N 1", "1 step counted"),
+        ),
+    ),
+    (
+        "a state that a new one does not empty, and four commands of one bytes line",
+        "model none\nlevel 3\nkeep 0\nmodel relative none\nlevel 4\nbytes 5001 5100 3001 00 5101\nforecast 1\n",
+        0,
+        table(
+            (1, "model none", "O 0 0", OPENED),
+            (3, "keep 0", "", "no line; the state is kept as 0"),
+            (4, "model relative none", "O 8 0", "state opened: model 8, season length 0, relative errors"),
+            (6, "bytes 5001 5100 3001 00 5101", "", "no line; the state is kept as 1"),
+            (6, "bytes 5001 5100 3001 00 5101", "", "no line; the state kept as 0 stands again"),
+            (6, "bytes 5001 5100 3001 00 5101", "F 1 196608", "forecast 3 for horizon 1"),
+            (6, "bytes 5001 5100 3001 00 5101", "", "no line; the state kept as 1 stands again"),
+            (7, "forecast 1", "F 1 262144", "forecast 4 for horizon 1"),
+            ("", "", "N 0", "0 steps counted"),
+        ),
+    ),
+    ("a keep where no state is open", "keep 0\nmissing\n", 1, table((1, "keep 0", "X 3 0", PLACE), "line 2 was not played")),
+    (
+        "a name above 3 is the program's to refuse",
+        "model none\nkeep 3\nkeep 4\nback 3\nmissing\n",
+        1,
+        table(
+            (1, "model none", "O 0 0", OPENED),
+            (2, "keep 3", "", "no line; the state is kept as 3"),
+            (3, "keep 4", "X 21 73", NAME),
+            "lines 4 to 5 were not played",
+        ),
+    ),
+    (
+        "and so is one that holds nothing",
+        "model none\nkeep 3\nmissing\nback 3\nback 2\n",
+        1,
+        table(
+            (1, "model none", "O 0 0", OPENED),
+            (2, "keep 3", "", "no line; the state is kept as 3"),
+            (3, "missing", "M", "missing reading taken"),
+            (4, "back 3", "", "no line; the state kept as 3 stands again"),
+            (5, "back 2", "X 21 76", NAME),
+        ),
+    ),
+    (
+        "a name that was cut",
+        "model none\nkeep 3\nbytes 51\n",
+        1,
+        table(
+            (1, "model none", "O 0 0", OPENED),
+            (2, "keep 3", "", "no line; the state is kept as 3"),
+            (3, "bytes 51", "X 4 73", "the bytes end inside a command or before a group is finished"),
         ),
     ),
     (

@@ -13,10 +13,10 @@ FIXED_POINT = 65536
 
 def unlimited(stream):
     """The lines of the second implementation without the input's limit."""
-    x, at, lines = None, 0, []
+    x, kept, at, lines = None, {}, 0, []
     while at < len(stream):
         try:
-            x, line, at = f.perform(x, stream, at)
+            x, line, at = f.perform(x, kept, stream, at)
         except f.Rejected as r:
             return lines + [f"X {r.code} {r.offset}"]
         lines += [] if line is None else [line]
@@ -63,6 +63,8 @@ FILES = [
     ("relative errors, ties to even and gains outside the usual region", "5\n7\n", ["--relative", "--outside", "--even", "--model", "straight", "--alpha", "0.25", "--beta", "0.5"],
      f.group_bytes(State(model=0x49, A=16384, B=32768, F=65536, opener=0x18, l=5 * FIXED_POINT)) + steps([5, 7])),
     ("a switch after the readings", "5\n7\n", ["--then", "even", "--then", "forecast 1"], opened(5) + steps([5, 7]) + b"\x14" + f.encode(0x30, 1)),
+    ("a state kept and brought back after the readings", "5\n7\n", ["--then", "keep 2", "--then", "reading 9", "--then", "back 2", "--then", "save"],
+     opened(5) + steps([5, 7]) + f.encode(0x50, 2) + steps([9]) + f.encode(0x51, 2) + b"\x40"),
     ("a season that is given", "5\n7\n", ["--m", "2", "--gamma", "0.5", "--season=-1,1", "--place", "1"],
      f.group_bytes(State(model=4, m=2, A=32768, G=32768, l=4 * FIXED_POINT, s=(-FIXED_POINT, FIXED_POINT) + (0,) * 46, p=1)) + steps([5, 7])),
     ("a season from the first readings", "5\nNA\n8\n9\n", ["--m", "3", "--place", "2"],
@@ -162,6 +164,25 @@ def rejected_model(folder):
 def rejected_then(folder):
     ended = series(folder, "1\n", "--then", "forecast 513")
     same(ended, (1, b"O 0 0\nE 0\nX 11 76\n", "series: forecast 513 is refused: the horizon is outside 1 to 512\n"))
+
+
+@case("series: a name after the readings that the program refuses")
+def rejected_name(folder):
+    ended = series(folder, "1\n", "--then", "keep 1", "--then", "back 2")
+    same(ended, (1, b"O 0 0\nE 0\nX 21 78\n", "series: back 2 is refused: the name is above 3, or holds no state to bring back\n"))
+
+
+@case("pieces: states that one run kept are brought back in later ones")
+def kept_in_pieces(folder):
+    kinds = State(A=20000), State(model=0x4D, m=3, A=9, B=9, F=65536), State(model=6, m=48, A=1, B=2, F=3, opener=0x18), State(count=70, readings=9, low=8)
+    stream = b"".join(f.group_bytes(x) + steps([7, None, k]) + f.encode(0x50, k) for k, x in enumerate(kinds))
+    for _ in range(2):
+        for k in (2, 0, 3, 1):
+            stream += steps([5] * 1000) + f.encode(0x51, k) + b"\x40" + steps([k]) + b"\x40"
+        stream += f.encode(0x50, 3)
+    for last in (b"", f.encode(0x50, 4), f.encode(0x51, 255)):
+        found = program.play(str(PROGRAM), commands.items(stream + last), limit=8000)
+        same_lines(found.answers + [found.last], unlimited(stream + last))
 
 
 @case("pieces: 250 random streams in runs of 600 bytes give what one run gives")

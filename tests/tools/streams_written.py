@@ -46,6 +46,8 @@ WRITTEN = [
     ("the same in another order", "model relative outside even none m 2 A 40000 G 40000\n", S(State(model=0x4C, m=2, A=40000, G=40000, opener=0x18))),
     ("relative errors of a model byte", "model relative 0x03\nmodel relative 8\nmodel 13 m 2\n", S(State(model=11)) + S(State(model=8)) + S(State(model=13, m=2, F=65536))),
     ("a switch", "model none\neven\neven\nreading 5\n", S(State()) + b"\x14\x14" + f.encode(0x20, 5)),
+    ("states kept and brought back", "model none\nkeep 0\nback 0\nkeep 3\nkeep 0x02\nback 003\n", S(State()) + bytes.fromhex("5000 5100 5003 5002 5103")),
+    ("names for the program to refuse", "back 0\nkeep 4\nback 4\nkeep 255\nback 255\n", bytes.fromhex("5100 5004 5104 50ff 51ff")),
     ("a model byte", "model 0x03 m 2 alpha 1\n", S(State(model=3, m=2, A=65536))),
     ("a model byte without season and an m", "model 1 m 2\n", S(State(model=1, m=2, F=65536))),
     ("seasons in any order", "model none m 2\ns 1 7\nplace 1\ns 0 -7\n", S(State(model=4, m=2, s=(-7, 7) + (0,) * 46, p=1))),

@@ -49,6 +49,8 @@ TO_EVEN = 0x14  # switches the state to rounding with ties to even
 EVEN = 0x40  # that rule's bit of the model byte
 RELATIVE = 0x08  # the model byte's bit for relative errors, whose variance is RELATIVE_VARIANCE and not VARIANCE
 READING, MISSING, FORECAST, VARIANCE, RELATIVE_VARIANCE, SAVE = 0x20, 0x21, 0x30, 0x31, 0x32, 0x40
+KEEP, BACK = 0x50, 0x51  # keeps the state under a name, and brings back what the name holds
+NAMES = 4
 DOUBLE = "d"
 
 MODEL_FIELDS = fields("model:B", "m:B", "A:I", "B:I", "G:I", "F:I")
@@ -69,6 +71,8 @@ COMMANDS = {
         Command(VARIANCE, "variance", "V", fields("horizon:H", "sigma2:I")),
         Command(RELATIVE_VARIANCE, "relative", "W", fields("horizon:H", "sigma2:d")),
         Command(SAVE, "save", "S", ()),
+        Command(KEEP, "keep", "", fields("name:B")),
+        Command(BACK, "back", "", fields("name:B")),
     )
 }
 ONLY_IN_SNAPSHOT = (LEVEL, SCORE, SEASON, POSITION)

@@ -13,7 +13,7 @@ from fractions import Fraction
 from typing import NamedTuple
 
 from lib.cli import Failure
-from lib.commands import COMMANDS, EVEN, RELATIVE, TO_EVEN, decode, decode_snapshot
+from lib.commands import BACK, COMMANDS, EVEN, KEEP, RELATIVE, TO_EVEN, decode, decode_snapshot
 from lib.numerals import FIXED_POINT, counted, readable
 
 REJECTIONS = {
@@ -37,6 +37,7 @@ REJECTIONS = {
     18: "the variance of the relative residuals is not a number from 0 to 1",
     19: "the variance, or a number on the way to it, is too large for a double",
     20: "a list of step counts does not rise or shares a count, a window is not valid or has no step, or the season length is not 24",
+    21: "the name is above 3, or holds no state to bring back",
 }
 TOO_LONG = 1  # the refusal that names no command
 
@@ -87,7 +88,11 @@ MEANINGS = {
 }
 
 
-SILENT = {TO_EVEN: "no line; ties go to the even number from here on"}
+SILENT = {
+    TO_EVEN: lambda: "no line; ties go to the even number from here on",
+    KEEP: lambda name: f"no line; the state is kept as {name}",
+    BACK: lambda name: f"no line; the state kept as {name} stands again",
+}
 
 
 def meaning(line, scale):
@@ -165,7 +170,7 @@ def explained(pieces, lines):
         """The commands without a line that come next and stand before the offset."""
         while answering and COMMANDS[answering[0].byte].silent and answering[0].start < end:
             command = answering.popleft()
-            yield origins.row(command.start, "", SILENT[command.byte])
+            yield origins.row(command.start, "", SILENT[command.byte](*command.operands))
 
     for line in lines:
         if line[:1] == "X":

@@ -81,6 +81,28 @@ def is_silent(item):
     return item[0] in commands.COMMANDS and commands.COMMANDS[item[0]].silent
 
 
+def printed(items):
+    """How many lines the items have."""
+    return sum(not is_silent(item) for item in items)
+
+
+def names_kept(items):
+    """The names under which the items keep a state; a byte that is none is refused, and ends the run."""
+    return {item[1] for item in items if item[0] == commands.KEEP and item[1] < commands.NAMES}
+
+
+def closing(names):
+    """The items that save the state that stands, then each state that a name holds."""
+    save = commands.encode(commands.SAVE)
+    return [save] + [item for name in names for item in (commands.encode(commands.BACK, name), save)]
+
+
+def opening(names, saved):
+    """The items that open what the closing ones saved."""
+    kept = [item for name, group in zip(names, saved[1:]) for item in (group, commands.encode(commands.KEEP, name))]
+    return kept + saved[:1]
+
+
 def taken_together(items, at, room):
     """How many items from `at` on fit into the room; one at least, where there is any."""
     many = 0
@@ -93,24 +115,26 @@ def taken_together(items, at, room):
 def play(program, items, limit=commands.INPUT_LIMIT):
     """Plays items, each a group or a command, as one run without the input's limit would.
 
-    A run ends in a save, and the next begins with what it saved: saving and opening lose nothing.
+    A run ends in saves of the state and of those that were kept, and the next begins with what it saved: saving and opening
+    lose nothing.
     """
-    save = commands.encode(commands.SAVE)
-    answers, carried, at, offset = [], b"", 0, 0
+    answers, carried, held, at, offset = [], [], set(), 0, 0
+    room = limit - len(b"".join(closing(range(commands.NAMES))))
     while True:
-        many = taken_together(items, at, limit - len(carried) - len(save))
-        taken = b"".join(items[at : at + many])
+        before = b"".join(carried)
+        many = taken_together(items, at, room - len(before))
+        taken = items[at : at + many]
         more = at + many < len(items)
-        found = lines(program, carried + taken + (save if more else b""))
-        found = found[1 if carried else 0 :]
+        held |= names_kept(taken) if more else set()
+        asked = closing(sorted(held)) if more else []
+        found = lines(program, before + b"".join(taken + asked))[printed(carried) :]
         if found and found[-1].startswith("X "):
             code, where = map(int, found[-1].split()[1:])
-            return Played(answers + found[:-1], f"X {code} {offset + where - len(carried)}")
-        printed = sum(not is_silent(item) for item in items[at : at + many])
-        answers += found[:printed]
-        if len(found) != printed + 1 + more:
+            return Played(answers + found[:-1], f"X {code} {offset + where - len(before)}")
+        answers += found[: printed(taken)]
+        if len(found) != printed(taken + asked) + 1:
             return Played(answers, "")
         if not more:
             return Played(answers, found[-1])
-        carried = bytes.fromhex(found[-2][2:])
-        at, offset = at + many, offset + len(taken)
+        carried = opening(sorted(held), [bytes.fromhex(line[2:]) for line in found[printed(taken) : -1]])
+        at, offset = at + many, offset + len(b"".join(taken))

@@ -10,6 +10,7 @@ use super::input::next_size;
 use super::input::next_state;
 use super::input::next_u32;
 use super::input::next_u64;
+use super::names;
 use super::printing::print_bytes;
 use super::printing::print_code;
 use super::printing::print_double;
@@ -181,6 +182,10 @@ fn play_read() {
 
 // Makes the call of an operation, and prints what it answers.
 pub fn play(operation: u8) {
+    if 24 <= operation {
+        names::play(operation);
+        return;
+    }
     if 18 <= operation {
         changes::play(operation, next_state());
         return;

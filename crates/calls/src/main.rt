@@ -2,6 +2,7 @@
 mod answers;
 mod changes;
 mod input;
+mod names;
 mod printing;
 
 use answers::play;

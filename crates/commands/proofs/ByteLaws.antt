@@ -20,12 +20,12 @@ use Rattle.commands.specs.Commands.{accepted, rejected, switchState, per
 use Rattle.commands.specs.Promises.{Sound, Switches, ErrorKinds}
 use Rattle.commands.specs.declared.Session.{Session}
 
-module _ (s : List ℕ) (x : Session) (room : ℕ) (h : x .at < length s) (b : getD s (x .at) 0 ≡ 0x14) where
-  closed : x .active ≡ false → perform s x room ≡ rejected out-of-place (x .at) x
+module _ (s : List ℕ) (x : Session) (cs : List ℕ) (room : ℕ) (h : x .at < length s) (b : getD s (x .at) 0 ≡ 0x14) where
+  closed : x .active ≡ false → perform s x cs room ≡ rejected out-of-place (x .at) x
   unfolding perform decode commandCode inPlace isCommand commandSize onlyInSnapshot opens
   closed e = rw (lt-leb (length s) (x .at) h, b, e)
 
-  open-state : x .active ≡ true → Sound x → perform s x room ≡ accepted reply-of.Silent (x .at + 1) (switched (x .state))
+  open-state : x .active ≡ true → Sound x → perform s x cs room ≡ accepted reply-of.Silent (x .at + 1) (switched (x .state))
   unfolding perform decode commandCode inPlace isCommand commandSize onlyInSnapshot opens operands switchState
   open-state e p =
       let room-left : 1 ≤ length s - x .at = omega arith in
@@ -37,7 +37,7 @@ no-line saved = refl
 
 pub switches : Switches
 switches =
-    record { unopened = λ s x room h b e. closed s x room h b e; opened = λ s x room h b e p. open-state s x room h b e p; line = no-line }
+    record { unopened = λ s x cs room h b e. closed s x cs room h b e; opened = λ s x cs room h b e p. open-state s x cs room h b e p; line = no-line }
 
 -- ---- 31 and 32 and the kind of the errors
 one-command : isCommand 0x31 ≡ true
@@ -48,19 +48,19 @@ two-command : isCommand 0x32 ≡ true
 unfolding isCommand commandSize
 two-command = refl
 
-module _ (s : List ℕ) (x : Session) (room : ℕ) (h : x .at < length s) where
+module _ (s : List ℕ) (x : Session) (cs : List ℕ) (room : ℕ) (h : x .at < length s) where
   abbrev b : ℕ
   b = getD s (x .at) 0
 
-  stray : isCommand b ≡ true → inPlace b (x .active) (x .state .model) ≡ false → perform s x room ≡ rejected out-of-place (x .at) x
+  stray : isCommand b ≡ true → inPlace b (x .active) (x .state .model) ≡ false → perform s x cs room ≡ rejected out-of-place (x .at) x
   unfolding perform
   stray c e = rw (decode-stray s (x .at) (x .active) (x .state .model) h c e)
 
-  additive : b ≡ 0x31 → hasRelativeErrors (x .state .model) ≡ true → perform s x room ≡ rejected out-of-place (x .at) x
+  additive : b ≡ 0x31 → hasRelativeErrors (x .state .model) ≡ true → perform s x cs room ≡ rejected out-of-place (x .at) x
   unfolding inPlace
   additive q e = stray (rw q one-command) (rw (q, e) (and-false (not (onlyInSnapshot 0x31) && (x .active || opens 0x31))))
 
-  relative : b ≡ 0x32 → hasRelativeErrors (x .state .model) ≡ false → perform s x room ≡ rejected out-of-place (x .at) x
+  relative : b ≡ 0x32 → hasRelativeErrors (x .state .model) ≡ false → perform s x cs room ≡ rejected out-of-place (x .at) x
   unfolding inPlace
   relative q e = stray (rw q two-command) (rw (q, e) (and-false (not (onlyInSnapshot 0x32) && (x .active || opens 0x32))))
 

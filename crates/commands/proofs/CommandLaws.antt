@@ -26,7 +26,7 @@ use Rattle.saving.proofs.RoundTrip.{length-encoded}
 use Rattle.replies.specs.declared.Reply.the-variants as reply-of
 use Rattle.decoding.specs.declared.Command.{Command}
 use Rattle.decoding.specs.declared.Decoded.{Decoded}
-use Rattle.commands.specs.Commands.{accepted, rejected, restOffset, openSnapshot, act, buffered, nextCommand, perform, performBytes}
+use Rattle.commands.specs.Commands.{accepted, rejected, restOffset, openSnapshot, act, buffered, checkpointed, nextCommand, perform, performBytes, performCheckpoints}
 use Rattle.commands.specs.Stream.{snapshotRoom}
 use Rattle.commands.specs.declared.Session.{Session}
 use Rattle.commands.specs.declared.Performed.{Performed}
@@ -75,14 +75,18 @@ opened-accepted s x g z q = rw (z, ← q)
 
 -- ---- the command that was decoded is performed
 module _ (s : List ℕ) (x : Session) (d : Decoded) (k : Command) (q : d ≡ nextCommand s x) (e : d .command ≡ k) where
-  pub performs : (room : ℕ) → perform s x room ≡ act s x room (d .next) k
+  pub performs : (cs : List ℕ) (room : ℕ) → perform s x cs room ≡ act s x cs room (d .next) k
   unfolding perform
-  performs room = rw (← q, e)
+  performs cs room = rw (← q, e)
 
   leaves : (buffer : List ℕ) → performBytes s x buffer ≡ buffered x buffer k
   unfolding performBytes
   leaves buffer = rw (← q, e)
 
-  pub performed : (buffer : List ℕ) {p : Performed} → p ≡ act s x (length buffer) (d .next) k
-      → (p ≡ perform s x (length buffer)) × (buffered x buffer k ≡ performBytes s x buffer)
-  performed buffer r = (r ∙ sym (performs (length buffer)), sym (leaves buffer))
+  pub keeps : (cs : List ℕ) → performCheckpoints s x cs ≡ checkpointed x cs k
+  unfolding performCheckpoints
+  keeps cs = rw (← q, e)
+
+  pub performed : (cs buffer : List ℕ) {p : Performed} → p ≡ act s x cs (length buffer) (d .next) k
+      → (p ≡ perform s x cs (length buffer)) × ((checkpointed x cs k ≡ performCheckpoints s x cs) × (buffered x buffer k ≡ performBytes s x buffer))
+  performed cs buffer r = (r ∙ sym (performs cs (length buffer)), (sym (keeps cs), sym (leaves buffer)))

@@ -1,3 +1,5 @@
 pub mod ByteLaws
 pub mod CommandLaws
 pub mod StreamLaws
+pub mod SessionLaws
+pub mod CheckpointLaws

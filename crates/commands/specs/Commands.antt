@@ -21,6 +21,7 @@ use Rattle.weights.specs.declared.Variance.the-variants as variance-of
 use Rattle.snapshot.specs.Snapshots.{openCode, openOffset, read}
 use Rattle.saving.specs.Encoding.{encoded}
 use Rattle.saving.specs.Saving.{save, savedBytes}
+use Rattle.checkpoints.specs.Checkpoints.{store, storedBytes, restore}
 use Rattle.relative.specs.Relative.{relativeVariance}
 use Rattle.relative.specs.declared.RelativeVariance.{RelativeVariance}
 use Rattle.relative.specs.declared.RelativeVariance.the-variants as relative-of
@@ -120,18 +121,31 @@ unfoldable pub saveState : Session → ℕ → ℕ → Performed
 saveState x next room =
     byOutcome (save (x .state) room) (accepted (reply-of.Saved (length (encoded (x .state)))) next (x .state)) (λ (code : ℕ). rejected code (x .at) x)
 
--- each command, with the offset after it and the room of the buffer that a save writes into
-abbrev pub act : List ℕ → Session → ℕ → ℕ → Command → Performed
-act s x room next command-of.End = finish x
-act s x room next command-of.Open = openSnapshot s x
-act s x room next (command-of.Reading y) = takeReading x next y
-act s x room next command-of.Missing = takeMissing x next
-act s x room next (command-of.Forecast h) = giveForecast x next h
-act s x room next (command-of.Variance h sigma2) = giveVariance x next h sigma2
-act s x room next command-of.Save = saveState x next room
-act s x room next (command-of.Rejected code) = rejected code (x .at) x
-act s x room next command-of.SwitchToEven = switchState x next
-act s x room next (command-of.RelativeVariance h sigma2) = giveRelativeVariance x next h sigma2
+-- 50 (document 02, W-209): the state is kept under a name, in checkpoints of so much room, and stands as it stood
+unfoldable pub storeState : Session → ℕ → ℕ → ℕ → Performed
+storeState x next slot room =
+    byOutcome (store (x .state) slot room) (accepted reply-of.Silent next (x .state)) (λ (code : ℕ). rejected code (x .at) x)
+
+-- 51: what a name holds in the checkpoints stands again
+unfoldable pub restoreState : Session → ℕ → ℕ → List ℕ → Performed
+restoreState x next slot checkpoints =
+    let t = restore slot checkpoints in
+    byOutcome (t .outcome) (accepted reply-of.Silent next (t .state)) (λ (code : ℕ). rejected code (x .at) x)
+
+-- each command, with the offset after it, the checkpoints, and the room of the buffer that a save writes into
+abbrev pub act : List ℕ → Session → List ℕ → ℕ → ℕ → Command → Performed
+act s x checkpoints room next command-of.End = finish x
+act s x checkpoints room next command-of.Open = openSnapshot s x
+act s x checkpoints room next (command-of.Reading y) = takeReading x next y
+act s x checkpoints room next command-of.Missing = takeMissing x next
+act s x checkpoints room next (command-of.Forecast h) = giveForecast x next h
+act s x checkpoints room next (command-of.Variance h sigma2) = giveVariance x next h sigma2
+act s x checkpoints room next command-of.Save = saveState x next room
+act s x checkpoints room next (command-of.Rejected code) = rejected code (x .at) x
+act s x checkpoints room next command-of.SwitchToEven = switchState x next
+act s x checkpoints room next (command-of.RelativeVariance h sigma2) = giveRelativeVariance x next h sigma2
+act s x checkpoints room next (command-of.Store slot) = storeState x next slot (length checkpoints)
+act s x checkpoints room next (command-of.Restore slot) = restoreState x next slot checkpoints
 
 -- what the buffer then holds
 abbrev pub buffered : Session → List ℕ → Command → List ℕ
@@ -145,19 +159,39 @@ buffered x buffer command-of.Save = savedBytes (x .state) buffer
 buffered x buffer (command-of.Rejected code) = buffer
 buffered x buffer command-of.SwitchToEven = buffer
 buffered x buffer (command-of.RelativeVariance h sigma2) = buffer
+buffered x buffer (command-of.Store slot) = buffer
+buffered x buffer (command-of.Restore slot) = buffer
+
+-- what the checkpoints then hold: only 50 writes there, so that a new group empties no name, and one that was brought back still holds its state
+abbrev pub checkpointed : Session → List ℕ → Command → List ℕ
+checkpointed x checkpoints command-of.End = checkpoints
+checkpointed x checkpoints command-of.Open = checkpoints
+checkpointed x checkpoints (command-of.Reading y) = checkpoints
+checkpointed x checkpoints command-of.Missing = checkpoints
+checkpointed x checkpoints (command-of.Forecast h) = checkpoints
+checkpointed x checkpoints (command-of.Variance h sigma2) = checkpoints
+checkpointed x checkpoints command-of.Save = checkpoints
+checkpointed x checkpoints (command-of.Rejected code) = checkpoints
+checkpointed x checkpoints command-of.SwitchToEven = checkpoints
+checkpointed x checkpoints (command-of.RelativeVariance h sigma2) = checkpoints
+checkpointed x checkpoints (command-of.Store slot) = storedBytes (x .state) slot checkpoints
+checkpointed x checkpoints (command-of.Restore slot) = checkpoints
 
 -- the command at the session's offset
 abbrev pub nextCommand : List ℕ → Session → Decoded
 nextCommand s x = decode s (x .at) (x .active) (x .state .model)
 
 -- the call: that command, finished before the next is looked at
-unfoldable pub perform : List ℕ → Session → ℕ → Performed
-perform s x room =
+unfoldable pub perform : List ℕ → Session → List ℕ → ℕ → Performed
+perform s x checkpoints room =
     let d = nextCommand s x in
-    act s x room (d .next) (d .command)
+    act s x checkpoints room (d .next) (d .command)
 
 unfoldable pub performBytes : List ℕ → Session → List ℕ → List ℕ
 performBytes s x buffer = buffered x buffer (nextCommand s x .command)
+
+unfoldable pub performCheckpoints : List ℕ → Session → List ℕ → List ℕ
+performCheckpoints s x checkpoints = checkpointed x checkpoints (nextCommand s x .command)
 
 -- X and N are a stream's last answers
 abbrev pub isLast : Reply → Bool

@@ -9,10 +9,11 @@ use Rattle.state.specs.declared.Outcome.{Outcome}
 use Rattle.state.specs.declared.Outcome.the-variants as outcome-of
 use Rattle.layout.specs.Layout.{sizeOf}
 use Rattle.saving.specs.Encoding.{encoded}
+use Rattle.checkpoints.specs.Checkpoints.{noCheckpoints}
 use Rattle.lines.specs.Lines.{lineOf, writeLine, lineBytes}
 use Rattle.replies.specs.declared.Reply.{Reply}
 use Rattle.replies.specs.declared.Reply.the-variants as reply-of
-use Rattle.commands.specs.Commands.{start, rejected, perform, isLast}
+use Rattle.commands.specs.Commands.{start, rejected, perform, performCheckpoints, isLast}
 use Rattle.commands.specs.declared.Session.{Session}
 use Rattle.commands.specs.declared.Performed.{Performed}
 use Rattle.commands.specs.declared.Written.{Written}
@@ -33,22 +34,24 @@ lineRoom = 3 + 2 * snapshotRoom
 unfoldable pub admit : List ℕ → Outcome
 admit s = outcome (unless (leb (length s) inputLimit) input-too-long)
 
--- one command of the program's stream
-abbrev pub next : List ℕ → Session → Performed
-next s x = perform s x snapshotRoom
+-- one command of the program's stream, with the checkpoints that the commands before it left
+abbrev pub next : List ℕ → Session → List ℕ → Performed
+next s x checkpoints = perform s x checkpoints snapshotRoom
 
 -- the answers of at most n commands, one after the other
-unfoldable pub answersIn : ℕ → List ℕ → Session → List Performed
-answersIn zero s x = []
-answersIn (suc n) s x = next s x ∷ cond (isLast (next s x .reply)) [] (answersIn n s (next s x .session))
+unfoldable pub answersIn : ℕ → List ℕ → Session → List ℕ → List Performed
+answersIn zero s x checkpoints = []
+answersIn (suc n) s x checkpoints =
+    let p = next s x checkpoints in
+    p ∷ cond (isLast (p .reply)) [] (answersIn n s (p .session) (performCheckpoints s x checkpoints))
 
 -- the answers from a session on: each command has a byte or more, so that they are no more than the bytes left and the last one
-unfoldable pub answersFrom : List ℕ → Session → List Performed
-answersFrom s x = answersIn (suc (length s - x .at)) s x
+unfoldable pub answersFrom : List ℕ → Session → List ℕ → List Performed
+answersFrom s x checkpoints = answersIn (suc (length s - x .at)) s x checkpoints
 
--- the whole stream's answers
+-- the whole stream's answers; no name holds anything at first
 abbrev pub answersOf : Outcome → List ℕ → List Performed
-answersOf outcome-of.Accepted s = answersFrom s start
+answersOf outcome-of.Accepted s = answersFrom s start noCheckpoints
 answersOf (outcome-of.Rejected code) s = rejected code 0 start ∷ []
 
 unfoldable pub answers : List ℕ → List Performed
@@ -78,12 +81,12 @@ unfoldable pub text : List ℕ → List ℕ
 text s = textOf (answers s)
 
 -- the call: one command and its line, and what the line's buffer then holds
-unfoldable pub writeNext : List ℕ → Session → ℕ → Written
-writeNext s x room =
-    let p = next s x in
+unfoldable pub writeNext : List ℕ → Session → List ℕ → ℕ → Written
+writeNext s x checkpoints room =
+    let p = next s x checkpoints in
     record { performed = p; line = writeLine (p .reply) (encoded (p .session .state)) room }
 
-unfoldable pub nextBytes : List ℕ → Session → List ℕ → List ℕ
-nextBytes s x buffer =
-    let p = next s x in
+unfoldable pub nextBytes : List ℕ → Session → List ℕ → List ℕ → List ℕ
+nextBytes s x checkpoints buffer =
+    let p = next s x checkpoints in
     lineBytes (p .reply) (encoded (p .session .state)) buffer

@@ -13,7 +13,9 @@ use performing::give_relative_variance;
 use performing::give_variance;
 use performing::open_snapshot;
 use performing::reject;
+use performing::restore_state;
 use performing::save_state;
+use performing::store_state;
 use performing::switch_state;
 use performing::take_missing;
 use performing::take_reading;
@@ -24,7 +26,7 @@ use state::State;
 use state::no_state;
 ghost use mathlib.Core.Path.{_≡_};
 ghost use lib.ListN.{length};
-ghost use Rattle.commands.specs.Commands.{start, isLast, perform, performBytes};
+ghost use Rattle.commands.specs.Commands.{start, isLast, perform, performBytes, performCheckpoints};
 ghost use Rattle.commands.specs.Stream.{admit, writeNext, nextBytes};
 
 // The longest input of the program.
@@ -33,7 +35,8 @@ pub const INPUT_LIMIT: usize = 65536;
 // The longest line, that of a saved snapshot: its letter, a space, two digits a byte, the line's end.
 pub const MAX_LINE: usize = 3 + 2 * MAX_SIZE;
 
-// What stands between two commands of a stream: the offset of the next one, and the state, where one is open.
+// What stands between two commands of a stream: the offset of the next one, and the state, where one is open. The states kept (document 02, W-209) stand beside it, in a
+// lent buffer (`checkpoints`), so that a command which keeps or brings back none copies none.
 // The fields are private: only `start` and `perform` make a session, so that the state of every session passes its checks.
 pub struct Session {
     at: usize,
@@ -106,9 +109,15 @@ pub fn start() -> Session
     }
 }
 
-// The command of a stream at a session's offset: its answer, and what stands after it. A save writes into the buffer, all else leaves it.
-pub fn perform(stream: &[u8], session: Session, buffer: &mut [u8]) -> Performed
-    ensures answer { λ r. ⌜ r ≡ perform (now (stream .entry)) session (length (now (buffer .entry))) ⌝ }
+// The command of a stream at a session's offset: its answer, and what stands after it. A save writes into the buffer and 50 into the checkpoints, all else leaves both.
+pub fn perform(
+    stream: &[u8],
+    session: Session,
+    checkpoints: &mut [u8],
+    buffer: &mut [u8],
+) -> Performed
+    ensures answer { λ r. ⌜ r ≡ perform (now (stream .entry)) session (now (checkpoints .entry)) (length (now (buffer .entry))) ⌝ }
+    ensures kept { λ _. ⌜ now (checkpoints .exit) ≡ performCheckpoints (now (stream .entry)) session (now (checkpoints .entry)) ⌝ }
     ensures bytes { λ _. ⌜ now (buffer .exit) ≡ performBytes (now (stream .entry)) session (now (buffer .entry)) ⌝ }
 {
     let found = decode(stream, session.at, session.active, session.state.model);
@@ -127,16 +136,24 @@ pub fn perform(stream: &[u8], session: Session, buffer: &mut [u8]) -> Performed
         Command::RelativeVariance { horizon, sigma2 } => {
             give_relative_variance(session, next, horizon, sigma2)
         }
+        Command::Store(slot) => store_state(session, next, slot, checkpoints),
+        Command::Restore(slot) => restore_state(session, next, slot, checkpoints),
     }
 }
 
 // One command of the program's stream, and its line at the start of a buffer.
-pub fn write_next(stream: &[u8], session: Session, line: &mut [u8]) -> Written
-    ensures answer { λ r. ⌜ r ≡ writeNext (now (stream .entry)) session (length (now (line .entry))) ⌝ }
-    ensures bytes { λ _. ⌜ now (line .exit) ≡ nextBytes (now (stream .entry)) session (now (line .entry)) ⌝ }
+pub fn write_next(
+    stream: &[u8],
+    session: Session,
+    checkpoints: &mut [u8],
+    line: &mut [u8],
+) -> Written
+    ensures answer { λ r. ⌜ r ≡ writeNext (now (stream .entry)) session (now (checkpoints .entry)) (length (now (line .entry))) ⌝ }
+    ensures kept { λ _. ⌜ now (checkpoints .exit) ≡ performCheckpoints (now (stream .entry)) session (now (checkpoints .entry)) ⌝ }
+    ensures bytes { λ _. ⌜ now (line .exit) ≡ nextBytes (now (stream .entry)) session (now (checkpoints .entry)) (now (line .entry)) ⌝ }
 {
     let mut saved = [0u8; MAX_SIZE];
-    let performed = perform(stream, session, &mut saved);
+    let performed = perform(stream, session, checkpoints, &mut saved);
     let reply = performed.reply;
     let written = write_line(reply, &saved, line);
     Written {

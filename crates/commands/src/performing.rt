@@ -1,6 +1,8 @@
 // What each command answers, and what stands after it. A rejected one leaves everything as it was.
 use super::Performed;
 use super::Session;
+use checkpoints::restore;
+use checkpoints::store;
 use ets::steps::missing;
 use ets::steps::step;
 use forecasts::forecast;
@@ -23,7 +25,8 @@ ghost use Prim.Native.Nat.{_≤_};
 ghost use lib.ListN.{length};
 ghost use Rattle.layout.specs.Answers.{lengthValue};
 ghost use Rattle.saving.specs.Saving.{bytesNeeded, savedBytes};
-ghost use Rattle.commands.specs.Commands.{accepted, rejected, finish, openSnapshot, takeReading, takeMissing, switchState, giveForecast, giveVariance, giveRelativeVariance, saveState};
+ghost use Rattle.checkpoints.specs.Checkpoints.{storedBytes};
+ghost use Rattle.commands.specs.Commands.{accepted, rejected, finish, openSnapshot, takeReading, takeMissing, switchState, giveForecast, giveVariance, giveRelativeVariance, saveState, storeState, restoreState};
 
 pub fn reject(code: u8, offset: usize, x: Session) -> Performed
     ensures { λ r. ⌜ r ≡ rejected code offset x ⌝ }
@@ -172,6 +175,30 @@ pub fn save_state(x: Session, next: usize, buffer: &mut [u8]) -> Performed
     let outcome = save(x.state, buffer);
     match outcome {
         Outcome::Accepted => accept(Reply::Saved(saved_count(x.state)), next, x.state),
+        Outcome::Rejected(code) => reject(code, x.at, x),
+    }
+}
+
+// Without a line, as the next.
+pub fn store_state(x: Session, next: usize, slot: u8, checkpoints: &mut [u8]) -> Performed
+    ensures answer { λ r. ⌜ r ≡ storeState x next slot (length (now (checkpoints .entry))) ⌝ }
+    ensures kept { λ _. ⌜ now (checkpoints .exit) ≡ storedBytes (x .state) slot (now (checkpoints .entry)) ⌝ }
+{
+    let outcome = store(x.state, slot, checkpoints);
+    match outcome {
+        Outcome::Accepted => accept(Reply::Silent, next, x.state),
+        Outcome::Rejected(code) => reject(code, x.at, x),
+    }
+}
+
+pub fn restore_state(x: Session, next: usize, slot: u8, checkpoints: &[u8]) -> Performed
+    ensures { λ r. ⌜ r ≡ restoreState x next slot (now (checkpoints .entry)) ⌝ }
+{
+    let found = restore(slot, checkpoints);
+    let outcome = found.outcome;
+    let kept = found.state;
+    match outcome {
+        Outcome::Accepted => accept(Reply::Silent, next, kept),
         Outcome::Rejected(code) => reject(code, x.at, x),
     }
 }

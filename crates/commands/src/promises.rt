@@ -1,5 +1,5 @@
 // What holds of every stream and every session.
-ghost use Rattle.commands.specs.Promises.{Sessions, Answers, Openings, Offsets, Switches, ErrorKinds, Listing};
+ghost use Rattle.commands.specs.Promises.{Sessions, Answers, Openings, Offsets, Switches, ErrorKinds, CheckpointLaws, Listing};
 
 pub fn sessions()
     ensures { λ _. ⌜ Sessions ⌝ }
@@ -25,6 +25,11 @@ pub fn switches()
 // Which models 31 and 32 are for.
 pub fn error_kinds()
     ensures { λ _. ⌜ ErrorKinds ⌝ }
+{}
+
+// What commands 50 and 51 do.
+pub fn checkpoint_laws()
+    ensures { λ _. ⌜ CheckpointLaws ⌝ }
 {}
 
 // The document's listing, byte for byte.

@@ -1,4 +1,5 @@
 // A stream of commands played to standard output, one write for each line.
+use checkpoints::CHECKPOINTS_SIZE;
 use commands::MAX_LINE;
 use commands::admit;
 use commands::is_last;
@@ -10,6 +11,7 @@ use lines::write_line;
 use replies::Reply;
 use state::Outcome;
 ghost use mathlib.Core.Path.{_≡_};
+ghost use Rattle.checkpoints.specs.Checkpoints.{noCheckpoints};
 ghost use Rattle.commands.specs.Commands.{start};
 ghost use Rattle.commands.specs.Stream.{answersFrom, answers, lastReply};
 
@@ -40,15 +42,16 @@ fn reject_stream(code: u8) -> Reply
     reply
 }
 
-// Performs the commands of a stream one after the other, up to its last answer, and writes each one's line.
+// Performs the commands of a stream one after the other, up to its last answer, and writes each one's line. The states kept are lent to each command, and copied by none.
 fn play_commands(s: &[u8]) -> Reply
-    ensures { λ r. ⌜ r ≡ lastReply (answersFrom (now (s .entry)) start) ⌝ }
+    ensures { λ r. ⌜ r ≡ lastReply (answersFrom (now (s .entry)) start noCheckpoints) ⌝ }
 {
     let mut x = start();
+    let mut checkpoints = [0u8; CHECKPOINTS_SIZE];
     let mut whole = true;
     loop {
         let mut buffer = [0u8; MAX_LINE];
-        let found = write_next(s, x, &mut buffer);
+        let found = write_next(s, x, &mut checkpoints, &mut buffer);
         let performed = found.performed;
         let line = found.line;
         let reply = performed.reply;

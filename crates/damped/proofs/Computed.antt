@@ -1,15 +1,14 @@
 -- The pins, computed.
 use mathlib.Core.Path.{_≡_, refl}
-use mathlib.Core.Bool.{Bool, false}
-use mathlib.Core.List.{[]}
-use Prim.Native.Nat.{ℕ}
+use mathlib.Core.Bool.{Bool, true, false}
+use mathlib.Core.List.{[], map}
+use Prim.Native.Nat.{ℕ, _<_}
 use native.Mathlib.Omega.{arith}
 use lib.Dec.{le→leb, leb→le, lit<}
 use lib.IntN.{ℤ, pos}
 use lib.Signed.{_<ℤ_}
 use Rattle.state.specs.Fixed.{R, share}
 use Rattle.integers.specs.Below.{allBelow}
-use Rattle.models.specs.Models.{trendOf, hasSeason}
 use Rattle.state.specs.Scores.{noScore, sumOf, sumOk}
 use Rattle.state.specs.States.{stateOf, check, parametersCode}
 use Rattle.state.specs.Switching.{switched, switchToEven}
@@ -24,27 +23,36 @@ use Rattle.snapshot.specs.Slices.{inPlaceCode}
 use Rattle.saving.specs.Encoding.{toBytes, modelBytes, levelBytes, scoreBytes, seasonBytes, seasonsBytes, positionBytes, encoded}
 use Rattle.saving.specs.InPlace.{inPlaceStepCode, inPlaceStepBytes, inPlaceMissingCode, inPlaceMissingBytes, inPlaceSwitchBytes, inPlaceForecastCode, inPlaceForecast}
 use Rattle.traces.specs.Calls.{result, after}
-use Rattle.drift.specs.Exact.{parametersOf, exactDamped, exactResidualBy, adjusted, exactSeasonBy, exactTakeBy, exactBatchBy, exactTrendAt, exactLine, exactForecast, exactAfter, expectedLevelsBy, upTo, expected}
+use Rattle.traces.specs.Operations.{on-state, perform}
+use Rattle.drift.specs.Exact.{Parameters, parametersOf, exactDamped, exactResidualBy, adjusted, exactSeasonBy, exactTakeBy, exactBatchBy, exactTrendAt, exactLine, exactForecast, exactAfter, expectedLevelsBy, upTo, expected, besideAfter, expectedBy}
 use Rattle.drift.specs.Limits.{AtMost, AllWithin}
 use Rattle.drift.specs.Pins.{beside, compared}
 use Rattle.drift.proofs.Runs.{first}
-use Rattle.damped.specs.Limits.{scaledK, GainsWithinOne, WithinOneStep, Opening}
-use Rattle.damped.specs.Pins.{Refused, apart, rising, Attained, readings, Needed, opening, relative, calls, Shown, Pins}
+use Rattle.damped.specs.Limits.{scaledK, GainsWithinOne, WithinOneStep, Contracting}
+use Rattle.damped.specs.Pins.{OpensContracting, four, Refused, apart, rising, Attained, readings, Needed, opening, relative, calls, Shown, Pins}
 use Rattle.damped.proofs.Damped.{one-step-forecasts}
 
+-- a kind of the pins; its fields are computed
+contracts : (c : Parameters) → c .trended ≡ true → c .phi < 65536 → c .seasonal ≡ false → GainsWithinOne c → pos 0 <ℤ scaledK c → Contracting c
+contracts c trended damped seasonless gains margin =
+    record { trended = trended; damped = damped; seasonless = seasonless; gains = gains; margin = margin }
+
+four-contracts : Contracting (parametersOf four)
+four-contracts = contracts _ refl (lit< tt) refl (leb→le _ _ tt) (record { lt = tt })
+
 refused : Refused
-unfolding AllWithin AtMost WithinOneStep result check parametersCode allBelow sumOf sumOk R share dampedTrend seasonBy residual newLevel newTrend newSeason seasonalBy squareOf scoreAfter nextIndex stepCodeBy step trendAt trendLine seasonAt forecastOf forecastCodeTo forecastTo forecastList forecastsCodeTo forecastsTo forecastCellsTo fromBytes toBytes commandSize isCommand dueCode modelCode levelCode scoreCode seasonCode scanSeasons positionCode scan cellsAt decoded modelBytes levelBytes scoreBytes seasonBytes seasonsBytes positionBytes encoded inPlaceCode inPlaceForecastCode inPlaceForecast inPlaceSwitchBytes switchToEven exactDamped exactResidualBy adjusted exactSeasonBy exactTrendAt exactLine exactForecast upTo exactAfter expected
+unfolding AllWithin AtMost WithinOneStep perform besideAfter expectedBy result check parametersCode allBelow sumOf sumOk R share dampedTrend seasonBy residual newLevel newTrend newSeason seasonalBy squareOf scoreAfter nextIndex stepCodeBy step trendAt trendLine seasonAt forecastOf forecastCodeTo forecastTo forecastList forecastsCodeTo forecastsTo forecastCellsTo fromBytes toBytes commandSize isCommand dueCode modelCode levelCode scoreCode seasonCode scanSeasons positionCode scan cellsAt decoded modelBytes levelBytes scoreBytes seasonBytes seasonsBytes positionBytes encoded inPlaceCode inPlaceForecastCode inPlaceForecast inPlaceSwitchBytes switchToEven exactDamped exactResidualBy adjusted exactSeasonBy exactTrendAt exactLine exactForecast upTo exactAfter expected
 refused =
     record {
-      forecast = λ h. le→leb _ _ (first (h .0) refl refl);
-      forecasts = λ h. le→leb _ _ (first (h .0) refl refl);
-      display = λ h. le→leb _ _ (first (h .0) refl refl);
-      display-all = λ h. le→leb _ _ (first (h .0) refl refl);
-      in-place = λ h. le→leb _ _ (first (h .0) refl refl);
-      switched = λ h. le→leb _ _ (first (h .1 .0) refl refl);
-      carried = λ h. le→leb _ _ (first (h .1 .0) refl refl);
-      phi-quarter = λ h. le→leb _ _ (first (h .0) refl refl);
-      phi-three-quarters = λ h. le→leb _ _ (first (h .0) refl refl);
+      forecast = λ h. le→leb _ _ (first (h .0 four-contracts) refl refl);
+      forecasts = λ h. le→leb _ _ (first (h .0 four-contracts) refl refl);
+      display = λ h. le→leb _ _ (first (h .0 four-contracts) refl refl);
+      display-all = λ h. le→leb _ _ (first (h .0 four-contracts) refl refl);
+      in-place = λ h. le→leb _ _ (first (h .0 four-contracts) refl refl);
+      switched = λ h. le→leb _ _ (first (h .1 .0 four-contracts) refl refl);
+      carried = λ h. le→leb _ _ (first (h .1 .0 four-contracts) refl refl);
+      phi-quarter = λ h. le→leb _ _ (first (h .0 (contracts _ refl (lit< tt) refl (leb→le _ _ tt) (record { lt = tt }))) refl refl);
+      phi-three-quarters = λ h. le→leb _ _ (first (h .0 (contracts _ refl (lit< tt) refl (leb→le _ _ tt) (record { lt = tt }))) refl refl);
     }
 
 attained : Attained
@@ -52,44 +60,36 @@ unfolding apart rising after beside result check parametersCode allBelow sumOf s
 attained = record { near = leb→le _ _ tt; near-even = leb→le _ _ tt; near-across = leb→le _ _ tt; beyond-half = leb→le _ _ tt }
 
 -- what the types of a state of the pins hold; the rest is computed
-opens : (outside : Bool) (model A B F : ℕ) (l b : ℤ) (count : ℕ) → check (stateOf outside model 0 A B 0 F l b [] 0 count noScore) ≡ 0 → trendOf model ≡ 2 → hasSeason model ≡ false → GainsWithinOne (parametersOf (stateOf outside model 0 A B 0 F l b [] 0 count noScore)) → pos 0 <ℤ scaledK (parametersOf (stateOf outside model 0 A B 0 F l b [] 0 count noScore)) → Opening (stateOf outside model 0 A B 0 F l b [] 0 count noScore)
-opens outside model A B F l b count passes damped seasonless gains margin =
-    record {
-      typed = record { cells = refl; low = lit< tt };
-      passes = passes;
-      damped = damped;
-      seasonless = seasonless;
-      gains = gains;
-      margin = margin;
-    }
+opens : (outside : Bool) (model A B F : ℕ) (l b : ℤ) (count : ℕ) → check (stateOf outside model 0 A B 0 F l b [] 0 count noScore) ≡ 0 → Contracting (parametersOf (stateOf outside model 0 A B 0 F l b [] 0 count noScore)) → OpensContracting (stateOf outside model 0 A B 0 F l b [] 0 count noScore)
+opens outside model A B F l b count passes kind = (record { typed = record { cells = refl; low = lit< tt }; passes = passes }, kind)
 
 needed : Needed
 unfolding AtMost WithinOneStep rising readings after beside result check parametersCode allBelow sumOf sumOk R share dampedTrend seasonBy residual newLevel newTrend newSeason seasonalBy squareOf scoreAfter nextIndex stepCodeBy step advanced missingCode missing trendAt trendLine seasonAt forecastOf exactDamped exactResidualBy adjusted exactSeasonBy exactTrendAt exactLine exactForecast exactAfter
 needed =
     record {
-      missing = (opens _ _ _ _ _ _ _ _ refl refl refl (leb→le _ _ tt) (record { lt = tt }), λ h. le→leb _ _ h);
+      missing = (opens _ _ _ _ _ _ _ _ refl (contracts _ refl (lit< tt) refl (leb→le _ _ tt) (record { lt = tt })), λ h. le→leb _ _ h);
       unclaimed = λ _ z. absurd (omega arith);
       gains = (refl, record { lt = tt }, λ h. le→leb _ _ h);
       margin = (refl, leb→le _ _ tt, record { lt = tt }, λ h. le→leb _ _ h);
-      twice = (opens _ _ _ _ _ _ _ _ refl refl refl (leb→le _ _ tt) (record { lt = tt }), λ h. le→leb _ _ h);
-      horizon = (opens _ _ _ _ _ _ _ _ refl refl refl (leb→le _ _ tt) (record { lt = tt }), λ h. le→leb _ _ h);
+      twice = (opens _ _ _ _ _ _ _ _ refl (contracts _ refl (lit< tt) refl (leb→le _ _ tt) (record { lt = tt })), λ h. le→leb _ _ h);
+      horizon = (opens _ _ _ _ _ _ _ _ refl (contracts _ refl (lit< tt) refl (leb→le _ _ tt) (record { lt = tt })), λ h. le→leb _ _ h);
     }
 
-opens-late : Opening opening
+opens-late : OpensContracting opening
 unfolding check parametersCode allBelow sumOf sumOk
-opens-late = opens _ _ _ _ _ _ _ _ refl refl refl (leb→le _ _ tt) (record { lt = tt })
+opens-late = opens _ _ _ _ _ _ _ _ refl (contracts _ refl (lit< tt) refl (leb→le _ _ tt) (record { lt = tt }))
 
-opens-even : Opening (switched opening)
+opens-even : OpensContracting (switched opening)
 unfolding check parametersCode allBelow sumOf sumOk
-opens-even = opens _ _ _ _ _ _ _ _ refl refl refl (leb→le _ _ tt) (record { lt = tt })
+opens-even = opens _ _ _ _ _ _ _ _ refl (contracts _ refl (lit< tt) refl (leb→le _ _ tt) (record { lt = tt }))
 
-opens-relative : Opening relative
+opens-relative : OpensContracting relative
 unfolding check parametersCode allBelow sumOf sumOk
-opens-relative = opens _ _ _ _ _ _ _ _ refl refl refl (leb→le _ _ tt) (record { lt = tt })
+opens-relative = opens _ _ _ _ _ _ _ _ refl (contracts _ refl (lit< tt) refl (leb→le _ _ tt) (record { lt = tt }))
 
 shown : Shown
 unfolding compared calls after result switchToEven inPlaceSwitchBytes check parametersCode allBelow sumOf sumOk R share dampedTrend seasonBy residual newLevel newTrend newSeason seasonalBy squareOf scoreAfter nextIndex stepCodeBy advanced missingCode step missing takeCodeBy afterTakeBy runBy batchRun batch batchLevels trendAt trendLine seasonAt forecastOf forecastCodeTo forecastTo forecastList forecastsCodeTo forecastsTo forecastCellsTo fromBytes toBytes commandSize isCommand dueCode modelCode levelCode scoreCode seasonCode scanSeasons positionCode scan cellsAt decoded modelBytes levelBytes scoreBytes seasonBytes seasonsBytes positionBytes encoded inPlaceCode inPlaceStepCode inPlaceStepBytes inPlaceMissingCode inPlaceMissingBytes inPlaceForecastCode inPlaceForecast exactDamped exactResidualBy adjusted exactSeasonBy exactTakeBy exactBatchBy exactTrendAt exactLine exactForecast exactAfter expectedLevelsBy upTo expected
-shown = record { opens = opens-late; opens-even = opens-even; opens-relative = opens-relative; holds = one-step-forecasts opening opens-late calls; rule-after = refl; compares = refl }
+shown = record { opens = opens-late; opens-even = opens-even; opens-relative = opens-relative; holds = one-step-forecasts opening (opens-late .0) (map on-state calls); rule-after = refl; compares = refl }
 
 pub pins : Pins
 pins = record { refused = refused; attained = attained; needed = needed; shown = shown }

@@ -1,4 +1,4 @@
--- W-207: from any state of a damped model without season that meets the conditions, every list of calls has its one-step forecasts within 1/K.
+-- W-207: in every list of operations the one-step forecasts are within 1/K while a damped model without season stands that meets the conditions.
 use mathlib.Core.Path.{_≡_, refl, _∙_, ap, subst}
 use mathlib.Core.Bool.{false}
 use Prim.Native.Nat.{ℕ}
@@ -7,7 +7,7 @@ use lib.IntN.{ℤ, pos}
 use Rattle.models.specs.Models.{hasSeason}
 use Rattle.state.specs.Switching.{switched}
 use Rattle.state.specs.declared.State.{State}
-use Rattle.state.proofs.Passing.{bounded, no-season}
+use Rattle.state.proofs.Passing.{no-season}
 use Rattle.state.proofs.Switches.{switch-law}
 use Rattle.ets.specs.Steps.{stepCode, missingCode, afterReading, afterMissing}
 use Rattle.ets.proofs.Kept.{reading-typed, reading-kept, missing-kept}
@@ -16,7 +16,7 @@ use Rattle.traces.specs.Laws.{Passing}
 use Rattle.drift.specs.Exact.{Parameters, parametersOf, Exact, opened, exactReading, exactMissing, exactSeasonBy, expectedForecast}
 use Rattle.drift.proofs.StepErrors.{none-apart}
 use Rattle.drift.proofs.Runs.{Keeps, claim}
-use Rattle.damped.specs.Limits.{WithinOneStep, Opening, OneStepForecasts}
+use Rattle.damped.specs.Limits.{WithinOneStep, Contracting, OneStepForecasts}
 use Rattle.damped.proofs.Contraction.{near-start}
 use Rattle.damped.proofs.Invariant.{N, C, M, Damped, damped, Close, forecast-close, close-reading}
 
@@ -84,19 +84,18 @@ keeps c m =
     }
 
 -- ---- the opening state: nothing is off
-module _ (s : State) (o : Opening s) where
-  fits : Damped (parametersOf s)
-  fits = damped (parametersOf s) (rw (o .damped)) (o .seasonless) (bounded s (o .passes) .phi) (o .gains) (o .margin)
+fits : (c : Parameters) → Contracting c → Damped c
+fits c m = damped c (m .trended) (m .seasonless) (omega arith) (m .gains) (m .margin)
 
-  start : Good (parametersOf s) s (opened s)
-  start =
-      record {
-        passing = record { typed = o .typed; passes = o .passes };
-        same = refl;
-        bare = λ k. rw (o .seasonless);
-        near = λ _. rw (none-apart (s .level), none-apart (s .trend)) (near-start (s .beta) (C (parametersOf s)) (s .phi) (M (parametersOf s)) (N (parametersOf s)) 1);
-      }
+start : (s : State) → Passing s → Contracting (parametersOf s) → Good (parametersOf s) s (opened s)
+start s w m =
+    record {
+      passing = w;
+      same = refl;
+      bare = λ k. rw (m .seasonless);
+      near = λ _. rw (none-apart (s .level), none-apart (s .trend)) (near-start (s .beta) (C (parametersOf s)) (s .phi) (M (parametersOf s)) (N (parametersOf s)) 1);
+    }
 
 pub one-step-forecasts : OneStepForecasts
-one-step-forecasts s o calls =
-    claim (parametersOf s) (WithinOneStep (parametersOf s)) (Good (parametersOf s)) (keeps (parametersOf s) (fits s o)) (λ (s : State) (x : Exact). Unit {0}) (λ s x w. tt) calls s (opened s) (start s o)
+one-step-forecasts s o os =
+    claim Contracting WithinOneStep Good (λ c m. keeps c (fits c m)) start (λ (c : Parameters) (s : State) (x : Exact). Unit {0}) (λ c s x w. tt) s o os

@@ -2,7 +2,7 @@
 -- and a run with what is compared. Each is computed.
 use Prim.Native.Nat.{ℕ, zero, suc, _+_, _*_, _-_, _/_, _^_, _≤_}
 use mathlib.Core.Bool.{true, false, not}
-use mathlib.Core.List.{List, [], _∷_, _++_}
+use mathlib.Core.List.{List, [], _∷_, _++_, map}
 use mathlib.Core.Path.{_≡_}
 use lib.IntN.{ℤ, pos, negsuc, natAbs}
 use lib.ListN.{replicate}
@@ -14,17 +14,23 @@ use Rattle.state.specs.Switching.{switched}
 use Rattle.state.specs.declared.State.{State}
 use Rattle.forecasts.specs.Forecasts.{maxHorizon, displayHorizon, forecastOf}
 use Rattle.traces.specs.Calls.{followed, cut, Call, Reading, Missing, Switch, Batch, Forecast, Forecasts, InPlaceReading, InPlaceMissing, InPlaceSwitch, InPlaceForecast, after}
-use Rattle.drift.specs.Exact.{parametersOf, Exact, opened, exactForecast, level-is, forecast-is, expectedForecast}
-use Rattle.drift.specs.Limits.{distance, AtMost}
+use Rattle.traces.specs.Operations.{standingOf, on-state}
+use Rattle.drift.specs.Exact.{parametersOf, Exact, opened, exactForecast, level-is, forecast-is, expectedForecast, startingFrom}
+use Rattle.drift.specs.Limits.{distance, AtMost, Opening}
 use Rattle.drift.specs.Pins.{standing, besideFrom, compared}
-use Rattle.damped.specs.Limits.{scaledK, GainsWithinOne, OneStepBound, WithinOneStep, OneStepClaim, Opening}
+use Rattle.damped.specs.Limits.{scaledK, GainsWithinOne, OneStepBound, WithinOneStep, Contracting, OneStepClaim}
 
 -- a state of a damped model without season: A, B, F, l and b. It is opened by 18 where B is above A
 abbrev pub damped : ℕ → ℕ → ℕ → ℤ → ℤ → State
 damped A B F l b = stateOf (not (usualGains A B 0)) 2 0 A B 0 F l b [] 0 0 noScore
 
+-- of a list of calls, which keeps no state
 abbrev pub ClaimOf : State → Exact → List Call → Type 0
-ClaimOf s x calls = OneStepClaim (parametersOf s) s x calls
+ClaimOf s x calls = OneStepClaim (standingOf s) (startingFrom (record { parameters = parametersOf s; exact = x })) (map on-state calls)
+
+-- an opening state of which the limit is claimed
+abbrev pub OpensContracting : State → Type 0
+OpensContracting s = Opening s × Contracting (parametersOf s)
 
 -- ---- claims that fail: a distance just above the limit
 -- α = 1/2, β = 1/4, φ = 1/2: K = 1/4; l is 4 and L just below 0
@@ -122,16 +128,16 @@ BoundAfter s calls power = OneStepBound (parametersOf s) power (answerAfter s ca
 
 pub record Needed : Type 0 where
   -- that no reading is missing: after two, l + d is 3, and 7/8 in the exact recursion
-  pub missing : Opening gaps × (BoundAfter gaps (Missing ∷ Missing ∷ []) 3 → ⊥)
+  pub missing : OpensContracting gaps × (BoundAfter gaps (Missing ∷ Missing ∷ []) 3 → ⊥)
   pub unclaimed : WithinOneStep (parametersOf gaps) (answerAfter gaps (Missing ∷ Missing ∷ [])) (expectedForecast (parametersOf gaps) (besideFrom gaps (Missing ∷ Missing ∷ [])) 1)
   -- that α + φβ is at most 1
   pub gains : (check largeGains ≡ 0) × (pos 0 <ℤ scaledK (parametersOf largeGains)) × (BoundAfter largeGains largeGainsCalls 5 → ⊥)
   -- that K is above 0: where it is below, 1/|K| is no limit
   pub margin : (check barelyDamped ≡ 0) × GainsWithinOne (parametersOf barelyDamped) × (scaledK (parametersOf barelyDamped) <ℤ pos 0) × (BoundAfter barelyDamped barelyDampedCalls 7 → ⊥)
   -- 1 − 2φ: with 1 − φ in its place the limit would not hold
-  pub twice : Opening swinging × (AtMost (65536 ^ 3) ((65536 - 32767) * (19661 * 65536 + 32767 * 65535)) 21 (answerAfter swinging swingingCalls) (exactAt swinging swingingCalls 1) → ⊥)
+  pub twice : OpensContracting swinging × (AtMost (65536 ^ 3) ((65536 - 32767) * (19661 * 65536 + 32767 * 65535)) 21 (answerAfter swinging swingingCalls) (exactAt swinging swingingCalls 1) → ⊥)
   -- horizon 1: the forecast for horizon 2 is further off
-  pub horizon : Opening creeping × (AtMost (65536 ^ 3) (natAbs (scaledK (parametersOf creeping))) 18 (forecastOf (after creeping (rising 8 268 118)) 2) (exactAt creeping (rising 8 268 118) 2) → ⊥)
+  pub horizon : OpensContracting creeping × (AtMost (65536 ^ 3) (natAbs (scaledK (parametersOf creeping))) 18 (forecastOf (after creeping (rising 8 268 118)) 2) (exactAt creeping (rising 8 268 118) 2) → ⊥)
 
 -- ---- a run with every kind of call, from a count of 2^48 − 4: rejected are the reading 1,000,001 (13), the calls in place with a byte too few (4) and with one after the
 -- snapshot (3), the first batch at its second reading (13), and the last missing reading, for the count is then full (14); the batch before it took a missing one
@@ -161,10 +167,10 @@ calls =
     ∷ []
 
 pub record Shown : Type 0 where
-  pub opens : Opening opening
+  pub opens : OpensContracting opening
   -- with ties to even from the start
-  pub opens-even : Opening (switched opening)
-  pub opens-relative : Opening relative
+  pub opens-even : OpensContracting (switched opening)
+  pub opens-relative : OpensContracting relative
   pub holds : ClaimOf opening (opened opening) calls
   pub rule-after : tiesToEven (after opening calls .model) ≡ true
   pub compares : compared (parametersOf opening) opening (opened opening) calls

@@ -2,7 +2,7 @@
 ghost use Rattle.damped.specs.Limits.{OneStepForecasts};
 ghost use Rattle.damped.specs.Pins.{Pins};
 
-// Every list of calls from such a state has its forecasts for horizon 1 within 1/K.
+// Every list of operations has its forecasts for horizon 1 within 1/K while such a model stands.
 pub fn one_step_forecasts()
     ensures { λ _. ⌜ OneStepForecasts ⌝ }
 {}

@@ -41,7 +41,9 @@ operands s at =
     (cond (eqb b 0x31) (command-of.Variance (unsignedAt s (at + 1) 2) (unsignedAt s (at + 3) 4))
     (cond (eqb b 0x32) (command-of.RelativeVariance (unsignedAt s (at + 1) 2) (unsignedAt s (at + 3) 8))
     (cond (eqb b 0x14) command-of.SwitchToEven
-    command-of.Save))))))
+    (cond (eqb b 0x50) (command-of.Store (getD s (at + 1) 0))
+    (cond (eqb b 0x51) (command-of.Restore (getD s (at + 1) 0))
+    command-of.Save))))))))
 
 abbrev pub decoded : Command → ℕ → Decoded
 decoded command next = record { command = command; next = next }

@@ -26,6 +26,9 @@ pub enum Command {
     SwitchToEven,
     // By the 64 bits of its σ².
     RelativeVariance { horizon: u32, sigma2: u64 },
+    // 50 and 51 (document 02, W-209), by their name.
+    Store(u8),
+    Restore(u8),
 }
 
 // A command, and the offset after it.

@@ -79,5 +79,11 @@ pub fn operands(s: &[u8], at: usize) -> Command
     if b == 0x14 {
         return Command::SwitchToEven;
     }
+    if b == 0x50 {
+        return Command::Store(s[at + 1]);
+    }
+    if b == 0x51 {
+        return Command::Restore(s[at + 1]);
+    }
     Command::Save
 }

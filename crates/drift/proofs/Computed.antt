@@ -1,6 +1,6 @@
 -- The pins, computed.
 use mathlib.Core.Path.{refl}
-use mathlib.Core.List.{[]}
+use mathlib.Core.List.{[], map}
 use Prim.Native.Nat.{ℕ, _<_}
 use native.Mathlib.Omega.{arith}
 use lib.Dec.{le→leb, leb→le, lit<}
@@ -23,36 +23,37 @@ use Rattle.snapshot.specs.Slices.{inPlaceCode}
 use Rattle.saving.specs.Encoding.{toBytes, modelBytes, levelBytes, scoreBytes, seasonBytes, seasonsBytes, positionBytes, encoded}
 use Rattle.saving.specs.InPlace.{inPlaceStepCode, inPlaceStepBytes, inPlaceMissingCode, inPlaceMissingBytes, inPlaceSwitchBytes, inPlaceForecastCode, inPlaceForecast}
 use Rattle.traces.specs.Calls.{result, after}
-use Rattle.drift.specs.Exact.{exactDamped, exactResidualBy, adjusted, exactSeasonBy, exactTakeBy, exactBatchBy, exactTrendAt, exactLine, exactForecast, exactAfter, expectedLevelsBy, upTo, expected}
-use Rattle.drift.specs.Limits.{AtMost, WithinLimit, AllWithin, Opening}
+use Rattle.traces.specs.Operations.{on-state, perform}
+use Rattle.drift.specs.Exact.{exactDamped, exactResidualBy, adjusted, exactSeasonBy, exactTakeBy, exactBatchBy, exactTrendAt, exactLine, exactForecast, exactAfter, expectedLevelsBy, upTo, expected, besideAfter, expectedBy}
+use Rattle.drift.specs.Limits.{AtMost, WithinLimit, AllWithin}
 use Rattle.drift.specs.Components.{StepError}
-use Rattle.drift.specs.Pins.{seasonal, damped, standing, ClaimOf, Refused, beside, creep, creepAcross, Attained, compared, falling, gaps, creeping, Needed, opening, relative, calls, Shown, Pins}
+use Rattle.drift.specs.Pins.{seasonal, damped, standing, ClaimOf, OpensTrendless, Refused, beside, creep, creepAcross, Attained, compared, falling, gaps, creeping, Needed, opening, relative, calls, Shown, Pins}
 use Rattle.drift.proofs.Runs.{first}
 use Rattle.drift.proofs.Drift.{demand3}
 
 index-refused : (k : ℕ) → k < 48 → ClaimOf (seasonal 48 32768 32768 (pos 0) []) (standing (pos 0) 0 k (pos 1)) [] → ⊥
 unfolding AllWithin AtMost
 index-refused k l h =
-    le→leb 2 0 (rw (getD-replicate 48 k (pos 0) (pos 0) l, eq-eqb k k refl) at (h .seasons k (omega arith)))
+    le→leb 2 0 (rw (getD-replicate 48 k (pos 0) (pos 0) l, eq-eqb k k refl) at (h refl .seasons k (omega arith)))
 
 refused : Refused
-unfolding AllWithin AtMost WithinLimit result check parametersCode allBelow sumOf sumOk R share dampedTrend seasonBy residual newLevel newTrend newSeason seasonalBy squareOf scoreAfter nextIndex stepCodeBy takeCodeBy afterTakeBy runBy batchRun batch batchLevels trendAt trendLine seasonAt forecastOf forecastCodeTo forecastTo forecastList forecastsCodeTo forecastsTo forecastCellsTo fromBytes toBytes commandSize isCommand dueCode modelCode levelCode scoreCode seasonCode scanSeasons positionCode scan cellsAt decoded modelBytes levelBytes scoreBytes seasonBytes seasonsBytes positionBytes encoded inPlaceCode inPlaceForecastCode inPlaceForecast inPlaceSwitchBytes switchToEven exactDamped exactResidualBy adjusted exactSeasonBy exactTakeBy exactTrendAt exactLine exactForecast expectedLevelsBy upTo exactAfter expected
+unfolding AllWithin AtMost WithinLimit perform besideAfter expectedBy result check parametersCode allBelow sumOf sumOk R share dampedTrend seasonBy residual newLevel newTrend newSeason seasonalBy squareOf scoreAfter nextIndex stepCodeBy takeCodeBy afterTakeBy runBy batchRun batch batchLevels trendAt trendLine seasonAt forecastOf forecastCodeTo forecastTo forecastList forecastsCodeTo forecastsTo forecastCellsTo fromBytes toBytes commandSize isCommand dueCode modelCode levelCode scoreCode seasonCode scanSeasons positionCode scan cellsAt decoded modelBytes levelBytes scoreBytes seasonBytes seasonsBytes positionBytes encoded inPlaceCode inPlaceForecastCode inPlaceForecast inPlaceSwitchBytes switchToEven exactDamped exactResidualBy adjusted exactSeasonBy exactTakeBy exactTrendAt exactLine exactForecast expectedLevelsBy upTo exactAfter expected
 refused =
     record {
-      level-one = λ h. le→leb _ _ (h .level);
-      level-three = λ h. le→leb _ _ (h .level);
+      level-one = λ h. le→leb _ _ (h refl .level);
+      level-three = λ h. le→leb _ _ (h refl .level);
       places = index-refused;
-      cell = λ h. le→leb _ _ (first (h .0));
-      forecast = λ h. le→leb _ _ (first (h .0) refl .0 refl);
-      forecasts = λ h. le→leb _ _ (first (h .0) refl .0 refl);
-      display = λ h. le→leb _ _ (first (h .0) refl .0 refl);
-      display-all = λ h. le→leb _ _ (first (h .0) refl .0 refl);
-      in-place = λ h. le→leb _ _ (first (h .0) refl .0 refl);
-      switched = λ h. le→leb _ _ (first (h .1 .0) refl .0 refl);
-      switched-in-place = λ h. le→leb _ _ (first (h .1 .0) refl .0 refl);
-      carried = λ h. le→leb _ _ (first (h .1 .0) refl .0 refl);
-      season-two = λ h. le→leb _ _ (first (h .0) refl .1 refl refl);
-      season-three = λ h. le→leb _ _ (first (h .0) refl .1 refl refl);
+      cell = λ h. le→leb _ _ (first (h .0 refl));
+      forecast = λ h. le→leb _ _ (first (h .0 refl) refl .0 refl);
+      forecasts = λ h. le→leb _ _ (first (h .0 refl) refl .0 refl);
+      display = λ h. le→leb _ _ (first (h .0 refl) refl .0 refl);
+      display-all = λ h. le→leb _ _ (first (h .0 refl) refl .0 refl);
+      in-place = λ h. le→leb _ _ (first (h .0 refl) refl .0 refl);
+      switched = λ h. le→leb _ _ (first (h .1 .0 refl) refl .0 refl);
+      switched-in-place = λ h. le→leb _ _ (first (h .1 .0 refl) refl .0 refl);
+      carried = λ h. le→leb _ _ (first (h .1 .0 refl) refl .0 refl);
+      season-two = λ h. le→leb _ _ (first (h .0 refl) refl .1 refl refl);
+      season-three = λ h. le→leb _ _ (first (h .0 refl) refl .1 refl refl);
       damped-one = λ h. le→leb _ _ h;
       damped-two = λ h. le→leb _ _ h;
       step = λ h. le→leb _ _ h;
@@ -76,17 +77,17 @@ needed =
       unclaimed = λ z. absurd (omega arith);
     }
 
-opens : Opening opening
+opens : OpensTrendless opening
 unfolding check parametersCode allBelow sumOf sumOk
-opens = record { typed = record { cells = refl; low = lit< tt }; passes = refl; trendless = refl }
+opens = (record { typed = record { cells = refl; low = lit< tt }; passes = refl }, refl)
 
-opens-outside : Opening (creeping (pos 0))
+opens-outside : OpensTrendless (creeping (pos 0))
 unfolding check parametersCode allBelow sumOf sumOk
-opens-outside = record { typed = record { cells = refl; low = lit< tt }; passes = refl; trendless = refl }
+opens-outside = (record { typed = record { cells = refl; low = lit< tt }; passes = refl }, refl)
 
-opens-relative : Opening relative
+opens-relative : OpensTrendless relative
 unfolding check parametersCode allBelow sumOf sumOk
-opens-relative = record { typed = record { cells = refl; low = lit< tt }; passes = refl; trendless = refl }
+opens-relative = (record { typed = record { cells = refl; low = lit< tt }; passes = refl }, refl)
 
 stepped : StepError (damped 0 1 (pos 0) (pos 1000000)) (pos 0)
 unfolding AtMost R share dampedTrend seasonBy residual newLevel newTrend newSeason seasonalBy squareOf scoreAfter nextIndex exactDamped exactResidualBy adjusted exactSeasonBy
@@ -94,7 +95,7 @@ stepped = record { level = leb→le _ _ tt; trend = leb→le _ _ tt; seasons = �
 
 shown : Shown
 unfolding compared calls after result switchToEven inPlaceSwitchBytes check parametersCode allBelow sumOf sumOk R share dampedTrend seasonBy residual newLevel newTrend newSeason seasonalBy squareOf scoreAfter nextIndex stepCodeBy advanced missingCode step missing takeCodeBy afterTakeBy runBy batchRun batch batchLevels trendAt trendLine seasonAt forecastOf forecastCodeTo forecastTo forecastList forecastsCodeTo forecastsTo forecastCellsTo fromBytes toBytes commandSize isCommand dueCode modelCode levelCode scoreCode seasonCode scanSeasons positionCode scan cellsAt decoded modelBytes levelBytes scoreBytes seasonBytes seasonsBytes positionBytes encoded inPlaceCode inPlaceStepCode inPlaceStepBytes inPlaceMissingCode inPlaceMissingBytes inPlaceForecastCode inPlaceForecast exactDamped exactResidualBy adjusted exactSeasonBy exactTakeBy exactBatchBy exactTrendAt exactLine exactForecast exactAfter expectedLevelsBy upTo expected
-shown = record { step = stepped; opens = opens; opens-outside = opens-outside; opens-relative = opens-relative; holds = demand3 opening opens calls; rule-before = refl; rule-after = refl; short = refl; compares = refl }
+shown = record { step = stepped; opens = opens; opens-outside = opens-outside; opens-relative = opens-relative; holds = demand3 opening (opens .0) (map on-state calls); rule-before = refl; rule-after = refl; short = refl; compares = refl }
 
 pub pins : Pins
 pins = record { refused = refused; attained = attained; needed = needed; shown = shown }

@@ -1,6 +1,7 @@
 -- The pins of clock changes, computed.
 use mathlib.Core.Path.{refl, sym}
 use mathlib.Core.Bool.{false≢true}
+use mathlib.Core.List.{map}
 use native.Mathlib.Omega.{arith}
 use lib.Dec.{le→leb, lit<}
 use Rattle.calendars.specs.Calendars.{rising, disjoint}
@@ -15,21 +16,22 @@ use Rattle.ets.specs.Calendars.{calendarCode, stepCodeOn, missingCodeOn, batchC
 use Rattle.forecasts.specs.Forecasts.{trendAt, trendLine, seasonAt, forecastOf, forecastCodeTo, forecastsCodeTo}
 use Rattle.forecasts.specs.Calendars.{indexFrom, forecastBy, forecastListBy, forecastCodeOn, forecastOn, forecastsCodeOn, forecastsOn, forecastCellsOn}
 use Rattle.traces.specs.Calls.{result, after}
-use Rattle.drift.specs.Exact.{exactDamped, exactResidualBy, adjusted, exactSeasonBy, exactTakeBy, exactBatchBy, exactTrendAt, exactLine, exactForecast, exactForecastBy, exactAfter, expectedLevelsBy, upTo, expected}
-use Rattle.drift.specs.Limits.{AtMost, WithinLimit, AllWithin, Opening}
-use Rattle.drift.specs.Pins.{beside, compared}
+use Rattle.traces.specs.Operations.{on-state, perform}
+use Rattle.drift.specs.Exact.{exactDamped, exactResidualBy, adjusted, exactSeasonBy, exactTakeBy, exactBatchBy, exactTrendAt, exactLine, exactForecast, exactForecastBy, exactAfter, expectedLevelsBy, upTo, expected, besideAfter, expectedBy}
+use Rattle.drift.specs.Limits.{AtMost, WithinLimit, AllWithin}
+use Rattle.drift.specs.Pins.{OpensTrendless, beside, compared}
 use Rattle.drift.specs.ClockPins.{ClocksRefused, ClocksNeeded, weekOn, ClocksWander, day, clocks, ClocksShown, ClockPins}
 use Rattle.drift.proofs.Runs.{first}
 use Rattle.drift.proofs.Drift.{demand3}
 
 refused : ClocksRefused
-unfolding AllWithin AtMost WithinLimit result rising disjoint check parametersCode allBelow sumOf sumOk R share dampedTrend seasonBy residual newLevel newTrend newSeason seasonalBy squareOf scoreAfter nextIndex stepCodeBy takeCodeBy afterTakeBy runBy calendarCode stepCodeOn batchCodeOn stepOn batchRunOn batchOn batchLevelsOn trendAt trendLine forecastCodeTo forecastsCodeTo indexFrom forecastBy forecastListBy forecastCodeOn forecastOn forecastsCodeOn forecastsOn forecastCellsOn exactDamped exactResidualBy adjusted exactSeasonBy exactTakeBy exactTrendAt exactLine exactForecastBy expectedLevelsBy upTo exactAfter expected
+unfolding AllWithin AtMost WithinLimit perform besideAfter expectedBy result rising disjoint check parametersCode allBelow sumOf sumOk R share dampedTrend seasonBy residual newLevel newTrend newSeason seasonalBy squareOf scoreAfter nextIndex stepCodeBy takeCodeBy afterTakeBy runBy calendarCode stepCodeOn batchCodeOn stepOn batchRunOn batchOn batchLevelsOn trendAt trendLine forecastCodeTo forecastsCodeTo indexFrom forecastBy forecastListBy forecastCodeOn forecastOn forecastsCodeOn forecastsOn forecastCellsOn exactDamped exactResidualBy adjusted exactSeasonBy exactTakeBy exactTrendAt exactLine exactForecastBy expectedLevelsBy upTo exactAfter expected
 refused =
     record {
-      forecast = λ h. le→leb _ _ (first (h .0) refl .1 refl refl);
-      forecasts = λ h. le→leb _ _ (first (h .0) refl .1 refl refl);
-      cell = λ h. le→leb _ _ (first (h .0));
-      carried = λ h. le→leb _ _ (first (h .1 .0) refl .1 refl refl);
+      forecast = λ h. le→leb _ _ (first (h .0 refl) refl .1 refl refl);
+      forecasts = λ h. le→leb _ _ (first (h .0 refl) refl .1 refl refl);
+      cell = λ h. le→leb _ _ (first (h .0 refl));
+      carried = λ h. le→leb _ _ (first (h .1 .0 refl) refl .1 refl refl);
     }
 
 needed : ClocksNeeded
@@ -45,7 +47,7 @@ wander : ClocksWander
 unfolding weekOn AtMost forecastOf seasonAt exactForecast beside compared after result rising disjoint check parametersCode allBelow sumOf sumOk R share dampedTrend seasonBy residual newLevel newTrend newSeason seasonalBy squareOf scoreAfter nextIndex stepCodeBy advanced missingCode step takeCodeBy afterTakeBy runBy batchRun batch batchLevels calendarCode stepCodeOn missingCodeOn batchCodeOn stepOn missingOn batchRunOn batchOn batchLevelsOn trendAt trendLine forecastCodeTo forecastsCodeTo indexFrom forecastBy forecastListBy forecastCodeOn forecastOn forecastsCodeOn forecastsOn forecastCellsOn exactDamped exactResidualBy adjusted exactSeasonBy exactTakeBy exactBatchBy exactTrendAt exactLine exactForecastBy exactAfter expectedLevelsBy upTo expected
 wander =
     record {
-      opens = record { typed = record { cells = refl; low = lit< tt }; passes = refl; trendless = refl };
+      opens = (record { typed = record { cells = refl; low = lit< tt }; passes = refl }, refl);
       readings = refl;
       gaps = refl;
       effects = refl;
@@ -53,9 +55,9 @@ wander =
       beyond = λ h. le→leb _ _ h;
     }
 
-opens : Opening day
+opens : OpensTrendless day
 unfolding check parametersCode allBelow sumOf sumOk
-opens = record { typed = record { cells = refl; low = lit< tt }; passes = refl; trendless = refl }
+opens = (record { typed = record { cells = refl; low = lit< tt }; passes = refl }, refl)
 
 shown : ClocksShown
 unfolding clocks beside compared after result rising disjoint check parametersCode allBelow sumOf sumOk R share dampedTrend seasonBy residual newLevel newTrend newSeason seasonalBy squareOf scoreAfter nextIndex stepCodeBy advanced missingCode step takeCodeBy afterTakeBy runBy batchRun batch batchLevels calendarCode stepCodeOn missingCodeOn batchCodeOn stepOn missingOn batchRunOn batchOn batchLevelsOn trendAt trendLine forecastCodeTo forecastsCodeTo indexFrom forecastBy forecastListBy forecastCodeOn forecastOn forecastsCodeOn forecastsOn forecastCellsOn exactDamped exactResidualBy adjusted exactSeasonBy exactTakeBy exactBatchBy exactTrendAt exactLine exactForecastBy exactAfter expectedLevelsBy upTo expected
@@ -67,7 +69,7 @@ shown =
       unlisted = record { place = refl; steps = refl; effects = refl; second = refl; third = refl; fourth = refl };
       plain = record { place = refl; steps = refl; effects = refl; second = refl; third = refl; fourth = refl };
       opens = opens;
-      holds = demand3 day opens clocks;
+      holds = demand3 day (opens .0) (map on-state clocks);
       stands = record { place = refl; steps = refl; effects = refl; second = refl; third = refl; fourth = refl };
       place = refl;
       gaps = refl;

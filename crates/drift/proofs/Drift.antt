@@ -1,4 +1,4 @@
--- Demand 3: from any state of a trendless model that the checks let pass, every list of calls stays within the limits.
+-- Demand 3: from any state that the checks let pass, every list of operations stays within the limits while a trendless model stands.
 use mathlib.Core.Path.{_≡_, refl, sym, ap, subst}
 use mathlib.Core.Bool.{Bool, true, false, cond}
 use Prim.Native.Nat.{ℕ, _*_, _-_, _<_}
@@ -16,8 +16,9 @@ use Rattle.ets.proofs.Kept.{reading-kept, missing-kept}
 use Rattle.ets.proofs.CalendarLaws.{Followed}
 use Rattle.forecasts.specs.Forecasts.{forecastOf}
 use Rattle.forecasts.specs.Calendars.{forecastBy}
+use Rattle.traces.specs.Laws.{Passing}
 use Rattle.drift.specs.Exact.{Parameters, parametersOf, Exact, opened, exactReading, exactMissing, level-is, expectedForecast, expectedForecastBy}
-use Rattle.drift.specs.Limits.{HalfPerReading, WithinLimit, StateWithin, Opening, Demand3}
+use Rattle.drift.specs.Limits.{HalfPerReading, WithinLimit, StateWithin, Trendless, Demand3}
 use Rattle.drift.proofs.Averages.{D, zeroD, Same}
 use Rattle.drift.proofs.Spread.{inv-start}
 use Rattle.drift.proofs.Errors.{Both}
@@ -89,7 +90,7 @@ no-error e d h = (omega arith, omega arith)
 no-size : (a e : ℕ) (d : D) → Same d zeroD → Sized a e d
 no-size a e d h = (omega (arith, ap (λ (z : ℕ). a * z) h), omega (arith, ap (λ (z : ℕ). a * z) h))
 
-module _ (s : State) (o : Opening s) where
+module _ (s : State) (o : Passing s) (flat : Trendless (parametersOf s)) where
   level-start : Same (levelErr s (opened s)) zeroD
   level-start = omega arith
 
@@ -101,7 +102,7 @@ module _ (s : State) (o : Opening s) where
       record {
         passes = o .passes;
         typed = o .typed;
-        flat = rw (o .trendless);
+        flat = flat;
         index = refl;
         count = refl;
         bare = λ h k. rw h;
@@ -112,5 +113,4 @@ module _ (s : State) (o : Opening s) where
       }
 
 pub demand3 : Demand3
-demand3 s o calls =
-    claim (parametersOf s) (WithinLimit (parametersOf s)) (Kept (parametersOf s)) (keeps (parametersOf s)) (StateWithin (parametersOf s)) (state-within (parametersOf s)) calls s (opened s) (refl, start s o)
+demand3 s o os = claim Trendless WithinLimit Kept (λ c flat. keeps c) (λ s w flat. (refl, start s w flat)) StateWithin state-within s o os

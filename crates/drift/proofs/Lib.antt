@@ -13,7 +13,7 @@ pub mod Readings
 pub mod Invariant
 pub mod ForecastErrors
 pub mod Distances
--- a step by a calendar; the calls, and a list of them
+-- a step by a calendar; the calls, and a list of operations
 pub mod Turns
 pub mod Runs
 pub mod Drift
@@ -22,3 +22,4 @@ pub mod Components
 pub mod StepErrors
 pub mod Computed
 pub mod ComputedClocks
+pub mod ComputedCheckpoints

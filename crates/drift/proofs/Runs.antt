@@ -1,5 +1,5 @@
--- An invariant that a reading, a missing reading and a switch of the rounding rule keep holds after every call and every list of calls, and each number answered is
--- within the limit that the invariant gives it.
+-- An invariant that a reading, a missing reading and a switch of the rounding rule keep holds after every call and every list of operations, of the state that stands and of
+-- each that a slot holds; and each number answered is within the limit that the invariant gives it.
 use mathlib.Core.Path.{_≡_, refl, sym, _∙_, ap}
 use mathlib.Core.Bool.{Bool, true, false, cond}
 use mathlib.Core.List.{List, [], _∷_, _++_}
@@ -13,15 +13,20 @@ use Rattle.state.specs.States.{indexOk}
 use Rattle.state.specs.Switching.{switched}
 use Rattle.state.specs.declared.State.{State}
 use Rattle.ets.specs.Steps.{stepCode, missingCode, afterReadingBy, afterReading, afterMissingBy, afterMissing}
-use Rattle.ets.specs.Batches.{Run, runBy, halted, preceded, takeCodeBy, afterTakeBy}
+use Rattle.ets.specs.Batches.{Run as BatchRun, runBy, halted, preceded, takeCodeBy, afterTakeBy}
 use Rattle.ets.proofs.CalendarLaws.{Followed, walkable, skips, repeats, placed, turned}
 use Rattle.forecasts.specs.Forecasts.{forecastOf, forecastList}
 use Rattle.forecasts.specs.Calendars.{forecastBy, forecastListBy}
+use Rattle.snapshot.specs.Snapshots.{openCode, read}
+use Rattle.checkpoints.specs.Checkpoints.{restoreCode, restore}
 use Rattle.traces.specs.Calls.{Call, Result, result}
 use Rattle.traces.specs.Laws.{Passing}
+use Rattle.traces.specs.Operations.{Standing, standingOf, Operation, on-state, Store, Restore, Open, perform}
 use Rattle.traces.proofs.Works.{by-code, Fitting, unlisted, listed, take-period, Works, reads, misses, switches, takes, forecasts-one, forecasts-all, walks-one, walks-all}
 use Rattle.traces.proofs.Results.{works}
-use Rattle.drift.specs.Exact.{Parameters, Exact, exactReadingBy, exactReading, exactMissingBy, exactMissing, exactTakeBy, exactBatchBy, exactAfter, Expected, level-is, expectedForecast, expectedForecastBy, upTo, expectedLevelsBy, expected}
+use Rattle.traces.proofs.Lists.{call-laws}
+use Rattle.traces.proofs.Operations.{Held, held-first, held-stored, opened-passes}
+use Rattle.drift.specs.Exact.{Parameters, parametersOf, Exact, opened, exactReadingBy, exactReading, exactMissingBy, exactMissing, exactTakeBy, exactBatchBy, exactAfter, Expected, level-is, expectedForecast, expectedForecastBy, upTo, expectedLevelsBy, expected, Run, runOf, Beside, besideOf, besideAfter, expectedBy}
 use Rattle.drift.specs.Limits.{EachWithin, none, more, AllWithin}
 use Rattle.drift.proofs.Turns.{shifted, codeOf, stepped, exactStepped, code-turned, skips-from, skips-to, repeats-from, repeats-to, goes-from, goes-to, exact-skips, exact-repeats, exact-goes}
 
@@ -103,7 +108,7 @@ module _ (c : Parameters) (limit : ℤ → Expected → Type 0) (Inv : State →
     unfolding takeCodeBy afterTakeBy exactTakeBy
     kept-take s x w f y z = kept-step k s x w f y (isSentinel y) z
 
-    abbrev Left : Exact → List ℤ → Run → Type 0
+    abbrev Left : Exact → List ℤ → BatchRun → Type 0
     Left x ys r =
         Inv (r .state) (exactBatchBy k c x (take (length (r .levels)) ys)) × EachWithin limit (r .levels) (expectedLevelsBy k c x (take (length (r .levels)) ys))
 
@@ -111,7 +116,7 @@ module _ (c : Parameters) (limit : ℤ → Expected → Type 0) (Inv : State →
     unfolding exactBatchBy expectedLevelsBy
     left-halted s x ys n w = (w, none)
 
-    left-preceded : (s : State) (x : Exact) (y : ℤ) (ys : List ℤ) (r : Run) → Inv s (exactTakeBy k c x y) → Left (exactTakeBy k c x y) ys r → Left x (y ∷ ys) (preceded (s .level) r)
+    left-preceded : (s : State) (x : Exact) (y : ℤ) (ys : List ℤ) (r : BatchRun) → Inv s (exactTakeBy k c x y) → Left (exactTakeBy k c x y) ys r → Left x (y ∷ ys) (preceded (s .level) r)
     unfolding exactBatchBy expectedLevelsBy
     left-preceded s x y ys r w u = (u .0, more (keeps .level s (exactTakeBy k c x y) w) (u .1))
 
@@ -159,10 +164,57 @@ module _ (c : Parameters) (limit : ℤ → Expected → Type 0) (Inv : State →
     fine-call : (k : Call) → Fine x (result s k)
     fine-call k = let p = keeps .passing s x w in fine-works (works s (p .typed) (p .passes) k)
 
-  -- ---- a list of calls
-  pub claim : (end : State → Exact → Type 0) → ((s : State) (x : Exact) → Inv s x → end s x) → (ks : List Call) (s : State) (x : Exact) → Inv s x → AllWithin limit end c s x ks
-  unfolding AllWithin
-  claim end f [] s x w = f s x w
-  claim end f (k ∷ ks) s x w =
-      let g = fine-call s x w k in
-      (g .1, claim end f ks (result s k .state) (exactAfter c x (result s k .event)) (g .0))
+-- ---- a list of operations: the invariant holds, for the parameters that run, where they are of the kind; it has to hold of every state that is opened
+module _ (kind : Parameters → Type 0) (limit : Parameters → ℤ → Expected → Type 0) (Inv : Parameters → State → Exact → Type 0) (keeps : (c : Parameters) → kind c → Keeps c (limit c) (Inv c)) (start : (s : State) → Passing s → kind (parametersOf s) → Inv (parametersOf s) s (opened s)) where
+  record Good (s : State) (r : Run) : Type 0 where
+    passing : Passing s
+    within : kind (r .parameters) → Inv (r .parameters) s (r .exact)
+
+  good-start : (s : State) → Passing s → Good s (runOf s)
+  good-start s w = record { passing = w; within = start s w }
+
+  -- what stands, and what each slot holds
+  record AllGood (a : Standing) (b : Beside) : Type 0 where
+    state : Good (a .state) (b .run)
+    slots : Held Good (a .checkpoints) (b .kept)
+
+  module _ (a : Standing) (b : Beside) (w : AllGood a b) where
+    abbrev c : Parameters
+    c = b .run .parameters
+
+    fine : (g : kind c) (k : Call) → Fine c (limit c) (Inv c) (keeps c g) (b .run .exact) (result (a .state) k)
+    fine g = fine-call c (limit c) (Inv c) (keeps c g) (a .state) (b .run .exact) (w .state .within g)
+
+    good-after : (o : Operation) → AllGood (perform a o .standing) (besideAfter b (perform a o .notice))
+    unfolding perform besideAfter
+    good-after (on-state k) =
+        record { state = record { passing = call-laws (a .state) (w .state .passing) k .stays; within = λ g. fine g k .0 }; slots = w .slots }
+    good-after (Store slot) =
+        record { state = w .state; slots = held-stored Good (a .state) (b .run) (a .checkpoints) (b .kept) (w .state .passing .typed) (w .state) (w .slots) slot }
+    good-after (Restore slot) =
+        record {
+          state = by-code (λ t. Good (cond t (restore slot (a .checkpoints) .state) (a .state)) (cond t (b .kept slot) (b .run))) (restoreCode slot (a .checkpoints)) (w .slots slot) (w .state);
+          slots = w .slots;
+        }
+    good-after (Open bytes h) =
+        record {
+          state = by-code (λ t. Good (cond t (read bytes .state) (a .state)) (cond t (runOf (read bytes .state)) (b .run))) (openCode bytes) (λ z. good-start (read bytes .state) (opened-passes bytes h z)) (w .state);
+          slots = w .slots;
+        }
+
+    each-within : (o : Operation) → kind c → EachWithin (limit c) (perform a o .numbers) (expectedBy (b .run) (perform a o .notice))
+    unfolding perform expectedBy
+    each-within (on-state k) g = fine g k .1
+    each-within (Store slot) g = none
+    each-within (Restore slot) g = none
+    each-within (Open bytes h) g = none
+
+  module _ (end : Parameters → State → Exact → Type 0) (ends : (c : Parameters) (s : State) (x : Exact) → Inv c s x → end c s x) where
+    claim-from : (os : List Operation) (a : Standing) (b : Beside) → AllGood a b → AllWithin kind limit end a b os
+    unfolding AllWithin
+    claim-from [] a b w = λ g. ends (b .run .parameters) (a .state) (b .run .exact) (w .state .within g)
+    claim-from (o ∷ os) a b w =
+        (each-within a b w o, claim-from os (perform a o .standing) (besideAfter b (perform a o .notice)) (good-after a b w o))
+
+    pub claim : (s : State) → Passing s → (os : List Operation) → AllWithin kind limit end (standingOf s) (besideOf s) os
+    claim s w os = claim-from os (standingOf s) (besideOf s) (record { state = good-start s w; slots = held-first Good (λ slot. runOf s) })

@@ -13,8 +13,8 @@ use Rattle.state.specs.declared.State.{State}
 use Rattle.forecasts.specs.Forecasts.{forecastOf}
 use Rattle.traces.specs.Calls.{Call, Reading, Batch, ReadingOn, MissingOn, BatchOn, ForecastOn, ForecastsOn, after}
 use Rattle.drift.specs.Exact.{parametersOf, Exact, exponent, opened, exactForecast, level-is, forecast-is}
-use Rattle.drift.specs.Limits.{SeasonalBound, WithinLimit, Opening}
-use Rattle.drift.specs.Pins.{seasonal, plain, standing, ClaimOf, besideFrom, compared}
+use Rattle.drift.specs.Limits.{SeasonalBound, WithinLimit}
+use Rattle.drift.specs.Pins.{seasonal, plain, standing, ClaimOf, OpensTrendless, besideFrom, compared}
 
 -- ---- claims that fail: a day with α = 0 and γ = 1, so that its limit is 24 + 48 = 72; l is 72 and L just below 0, and n/2 is 73. With α = 1/2 a level in a cell is 1 from L
 -- at n = 1
@@ -63,7 +63,7 @@ weekOn = BatchOn (calendarOf (2 ∷ 25 ∷ 48 ∷ 71 ∷ 94 ∷ 117 ∷ 140 ∷ 
 
 -- afterwards the forecast for horizon 3, of place 2, is above the limit
 pub record ClocksWander : Type 0 where
-  pub opens : Opening wandering
+  pub opens : OpensTrendless wandering
   pub readings : besideFrom wandering weekOn .n ≡ 161
   pub gaps : besideFrom wandering weekOn .missed ≡ 0
   pub effects : besideFrom wandering weekOn .changed ≡ 7
@@ -111,7 +111,7 @@ pub record ClocksShown : Type 0 where
   -- a count that is not listed, and the same call without lists
   pub unlisted : StandsAfter (ReadingOn (calendarOf (101 ∷ []) (99 ∷ [])) (pos 5)) 2 3 0 (pos (3 * 65536 ^ 3)) (pos (2 * 65536 ^ 3))
   pub plain : StandsAfter (Reading (pos 5)) 2 3 0 (pos (3 * 65536 ^ 3)) (pos (2 * 65536 ^ 3))
-  pub opens : Opening day
+  pub opens : OpensTrendless day
   pub holds : ClaimOf day (opened day) clocks
   -- after all of them: p is the state's, and a list took effect on 4 of 27 steps, of which 22 were missing readings
   pub stands : Stands (besideFrom day clocks) 5 127 4 (pos (106496 * 65536 ^ 10)) (pos (129024 * 65536 ^ 10)) (pos (211456 * 65536 ^ 10))

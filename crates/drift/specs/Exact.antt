@@ -14,6 +14,7 @@ use Rattle.state.specs.declared.State.{State}
 use Rattle.calendars.specs.Turns.{Turn, turnFrom}
 use Rattle.forecasts.specs.Calendars.{placeFrom}
 use Rattle.traces.specs.Calls.{Event, observed, unobserved, untold, series, horizon, horizons, horizon-on, horizons-on}
+use Rattle.traces.specs.Operations.{Notice, called, stored, restored, opening}
 
 -- the trend and the season of the model and its parameters, which no call changes: the rounding rule is none of them
 pub record Parameters : Type 0 where
@@ -210,3 +211,40 @@ expected c x (horizon h accepted) = cond accepted (expectedForecast c x h ∷ []
 expected c x (horizons h accepted) = cond accepted (upTo (expectedForecast c x) h) []
 expected c x (horizon-on k h accepted) = cond accepted (expectedForecastBy k c x h ∷ []) []
 expected c x (horizons-on k h accepted) = cond accepted (upTo (expectedForecastBy k c x) h) []
+
+-- ---- document 02, W-209: the exact recursion is kept and brought back with the state, its opening and its readings with it. One that runs has the parameters of the state
+-- that was opened
+pub record Run : Type 0 where
+  pub parameters : Parameters
+  pub exact : Exact
+
+abbrev pub runOf : State → Run
+runOf s = record { parameters = parametersOf s; exact = opened s }
+
+-- the one that runs beside the state that stands, and the one that was kept with each slot's
+pub record Beside : Type 0 where
+  pub run : Run
+  pub kept : ℕ → Run
+
+-- at first no slot holds a state, and what is said to be kept with it is never brought back
+abbrev pub startingFrom : Run → Beside
+startingFrom r = record { run = r; kept = λ slot. r }
+
+abbrev pub besideOf : State → Beside
+besideOf s = startingFrom (runOf s)
+
+-- an accepted 50 keeps the one that runs, an accepted 51 brings back the slot's own, and an accepted group starts anew; a group empties no slot
+unfoldable pub besideAfter : Beside → Notice → Beside
+besideAfter b (called e) =
+    let r = b .run in
+    record { run = record { parameters = r .parameters; exact = exactAfter (r .parameters) (r .exact) e }; kept = b .kept }
+besideAfter b (stored slot accepted) = record { run = b .run; kept = λ k. cond (accepted && eqb k slot) (b .run) (b .kept k) }
+besideAfter b (restored slot accepted) = record { run = cond accepted (b .kept slot) (b .run); kept = b .kept }
+besideAfter b (opening t accepted) = record { run = cond accepted (runOf t) (b .run); kept = b .kept }
+
+-- a call's numbers are compared with those of the one that runs; there is nothing else to compare
+unfoldable pub expectedBy : Run → Notice → List Expected
+expectedBy r (called e) = expected (r .parameters) (r .exact) e
+expectedBy r (stored slot accepted) = []
+expectedBy r (restored slot accepted) = []
+expectedBy r (opening t accepted) = []

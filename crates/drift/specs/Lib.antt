@@ -4,3 +4,4 @@ pub mod Components
 pub mod ForecastErrors
 pub mod Pins
 pub mod ClockPins
+pub mod CheckpointPins

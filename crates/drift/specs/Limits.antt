@@ -1,15 +1,14 @@
--- A list of calls beside the exact recursion; demand 3's limits, multiplied out, and its claim.
+-- A list of operations beside the exact recursion; demand 3's limits, multiplied out, and its claim.
 use Prim.Native.Nat.{ℕ, suc, _+_, _*_, _-_, _^_, _≤_, _<_}
 use mathlib.Core.Bool.{true, false}
 use mathlib.Core.List.{List, [], _∷_}
 use mathlib.Core.Path.{_≡_}
 use lib.IntN.{ℤ, pos, natAbs, _-ℤ_, _*ℤ_}
 use lib.ListN.{getD}
-use Rattle.models.specs.Models.{trendOf}
-use Rattle.state.specs.States.{Typed, check}
 use Rattle.state.specs.declared.State.{State}
-use Rattle.traces.specs.Calls.{Call, result}
-use Rattle.drift.specs.Exact.{Parameters, parametersOf, Exact, opened, exactAfter, Expected, level-is, forecast-is, expected}
+use Rattle.traces.specs.Laws.{Passing}
+use Rattle.traces.specs.Operations.{Standing, standingOf, Operation, perform}
+use Rattle.drift.specs.Exact.{Parameters, Exact, Expected, level-is, forecast-is, Beside, besideOf, besideAfter, expectedBy}
 
 -- the distance of z from Z over 65536 ^ power, times 65536 ^ power
 abbrev pub distance : ℕ → ℤ → ℤ → ℕ
@@ -24,13 +23,18 @@ pub data EachWithin (limit : ℤ → Expected → Type 0) : List ℤ → List Ex
   none : EachWithin limit [] []
   more : {z : ℤ} {e : Expected} {zs : List ℤ} {es : List Expected} → limit z e → EachWithin limit zs es → EachWithin limit (z ∷ zs) (e ∷ es)
 
--- a list of calls from the state s, beside which the exact recursion runs from x: each number of an answer is within its limit of what the recursion has for it
--- there, and the state that stands after the list is within `end`
-unfoldable pub AllWithin : (ℤ → Expected → Type 0) → (State → Exact → Type 0) → Parameters → State → Exact → List Call → Type 0
-AllWithin limit end c s x [] = end s x
-AllWithin limit end c s x (k ∷ ks) =
-    let r = result s k in
-    EachWithin limit (r .numbers) (expected c x (r .event)) × AllWithin limit end c (r .state) (exactAfter c x (r .event)) ks
+-- a list of operations, beside which the exact recursion runs: each number of an answer is within its limit of what the recursion has for it there, and the state that
+-- stands after the list is within `end`. A list may open and bring back states of any model (document 02, W-209): what is claimed is claimed where the parameters that then
+-- run are of the kind
+unfoldable pub AllWithin : (kind : Parameters → Type 0) (limit : Parameters → ℤ → Expected → Type 0) (end : Parameters → State → Exact → Type 0) → Standing → Beside → List Operation → Type 0
+AllWithin kind limit end a b [] =
+    let c = b .run .parameters in
+    kind c → end c (a .state) (b .run .exact)
+AllWithin kind limit end a b (o ∷ os) =
+    let c = b .run .parameters in
+    let r = perform a o in
+    (kind c → EachWithin (limit c) (r .numbers) (expectedBy (b .run) (r .notice)))
+    × AllWithin kind limit end (r .standing) (besideAfter b (r .notice)) os
 
 -- ---- demand 3: n/2
 abbrev pub HalfPerReading : ℕ → ℤ → ℤ → Type 0
@@ -62,15 +66,17 @@ pub record StateWithin (c : Parameters) (s : State) (x : Exact) : Type 0 where
   pub level : HalfPerReading (x .n) (s .level) (x .L)
   pub seasons : (k : ℕ) → k < c .period → HalfPerReading (x .n) (getD (s .seasonal) k (pos 0)) (x .S k)
 
--- the single claim about a list of calls: each number of an answer is within its limit, and the state that stands after the list is within n/2
-abbrev pub Claim : Parameters → State → Exact → List Call → Type 0
-Claim c = AllWithin (WithinLimit c) (StateWithin c) c
+abbrev pub Trendless : Parameters → Type 0
+Trendless c = c .trended ≡ false
 
--- a state of a trendless model that checks 5, 6, 7, 16, 9, 10 and 17 let pass (and that the types of the code hold)
-pub record Opening (s : State) : Type 0 where
-  pub typed : Typed s
-  pub passes : check s ≡ 0
-  pub trendless : trendOf (s .model) ≡ 0
+-- the single claim about a list: while a trendless model stands, each number of an answer is within its limit, and the state that stands after the list is within n/2
+abbrev pub Claim : Standing → Beside → List Operation → Type 0
+Claim = AllWithin Trendless WithinLimit StateWithin
+
+-- a state that checks 5, 6, 7, 16, 9, 10 and 17 let pass (and that the types of the code hold). Document 01's opening state of a trendless model is the case that is claimed
+-- from the start; a list may open others, and may start from one: the limits are claimed while a trendless model stands
+abbrev pub Opening : State → Type 0
+Opening = Passing
 
 abbrev pub Demand3 : Type 0
-Demand3 = (s : State) → Opening s → (calls : List Call) → Claim (parametersOf s) s (opened s) calls
+Demand3 = (s : State) → Opening s → (os : List Operation) → Claim (standingOf s) (besideOf s) os

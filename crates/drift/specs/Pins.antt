@@ -2,7 +2,7 @@
 -- out, and a run with what is compared. Each is computed.
 use Prim.Native.Nat.{ℕ, zero, suc, _+_, _*_, _-_, _/_, _^_, _≤_, _<_}
 use mathlib.Core.Bool.{true, false, cond, not}
-use mathlib.Core.List.{List, [], _∷_, _++_}
+use mathlib.Core.List.{List, [], _∷_, _++_, map}
 use mathlib.Core.Path.{_≡_}
 use lib.Dec.{eqb}
 use lib.IntN.{ℤ, pos, negsuc}
@@ -16,8 +16,9 @@ use Rattle.ets.specs.Steps.{afterReading, afterMissing}
 use Rattle.forecasts.specs.Forecasts.{maxHorizon, displayHorizon, forecastOf}
 use Rattle.snapshot.specs.Slices.{inPlaceCode}
 use Rattle.traces.specs.Calls.{followed, cut, sliceOf, Call, Reading, Missing, Switch, Batch, Forecast, Forecasts, InPlaceReading, InPlaceMissing, InPlaceSwitch, InPlaceForecast, result, after}
-use Rattle.drift.specs.Exact.{Parameters, parametersOf, Exact, opened, exactReading, exactForecast, exactAfter, Expected, level-is, forecast-is, expected}
-use Rattle.drift.specs.Limits.{distance, SeasonalBound, WithinLimit, Claim, Opening}
+use Rattle.traces.specs.Operations.{standingOf, on-state}
+use Rattle.drift.specs.Exact.{Parameters, parametersOf, Exact, opened, exactReading, exactForecast, exactAfter, Expected, level-is, forecast-is, expected, startingFrom}
+use Rattle.drift.specs.Limits.{distance, SeasonalBound, WithinLimit, Trendless, Claim, Opening}
 use Rattle.drift.specs.Components.{OneUnit, StepError, HalfUnit, skipped}
 use Rattle.drift.specs.ForecastErrors.{exactFrom, DampedBound}
 
@@ -36,8 +37,13 @@ plain l = stateOf false 0 0 32768 0 0 0 l (pos 0) [] 0 0 noScore
 abbrev pub standing : ℤ → ℕ → ℕ → ℤ → Exact
 standing L n k S = record { L = L; T = pos 0; S = λ j. cond (eqb j k) S (pos 0); p = 0; n = n; count = 0; missed = 0; changed = 0 }
 
+-- of a list of calls, which keeps no state
 abbrev pub ClaimOf : State → Exact → List Call → Type 0
-ClaimOf s x calls = Claim (parametersOf s) s x calls
+ClaimOf s x calls = Claim (standingOf s) (startingFrom (record { parameters = parametersOf s; exact = x })) (map on-state calls)
+
+-- an opening state of a trendless model: its claim is no empty one
+abbrev pub OpensTrendless : State → Type 0
+OpensTrendless s = Opening s × Trendless (parametersOf s)
 
 -- ---- claims that fail: a distance just above a limit, with all other comparisons within theirs
 pub record Refused : Type 0 where
@@ -183,11 +189,11 @@ calls =
 pub record Shown : Type 0 where
   -- a step whose d is 1,000,000/65536 = 15.2.., rounded to 15
   pub step : StepError (damped 0 1 (pos 0) (pos 1000000)) (pos 0)
-  pub opens : Opening opening
+  pub opens : OpensTrendless opening
   -- a state that 18 opened is an opening state too
-  pub opens-outside : Opening (creeping (pos 0))
+  pub opens-outside : OpensTrendless (creeping (pos 0))
   -- and so is one with multiplicative errors
-  pub opens-relative : Opening relative
+  pub opens-relative : OpensTrendless relative
   pub holds : ClaimOf opening (opened opening) calls
   -- ties went up before the switch and go to even after the list
   pub rule-before : tiesToEven (after opening (Reading (pos 5) ∷ InPlaceSwitch (followed (0x14 ∷ [])) ∷ []) .model) ≡ false

@@ -4,8 +4,9 @@ ghost use Rattle.drift.specs.ForecastErrors.{ForecastErrors};
 ghost use Rattle.drift.specs.Limits.{Demand3};
 ghost use Rattle.drift.specs.Pins.{Pins};
 ghost use Rattle.drift.specs.ClockPins.{ClockPins};
+ghost use Rattle.drift.specs.CheckpointPins.{CheckpointPins};
 
-// Every list of calls from an opening state stays within the limits.
+// Every list of operations from an opening state stays within the limits: calls, states kept and brought back (document 02, W-209), new snapshots.
 pub fn demand3()
     ensures { λ _. ⌜ Demand3 ⌝ }
 {}
@@ -18,6 +19,11 @@ pub fn pins()
 // Nor over clock changes than document 02, W-208, has them.
 pub fn clock_pins()
     ensures { λ _. ⌜ ClockPins ⌝ }
+{}
+
+// Nor over kept states than W-209 has them.
+pub fn checkpoint_pins()
+    ensures { λ _. ⌜ CheckpointPins ⌝ }
 {}
 
 // The exact step is the component form, for every model.

@@ -1,4 +1,4 @@
--- Document 01, "Commands", and document 02, W-201 (18), W-211 (14), W-204 (15) and W-205 (32): each command's first byte, its length with its operands, and whether only a snapshot (the paper's group) holds it.
+-- Document 01, "Commands", and document 02, W-201 (18), W-211 (14), W-204 (15), W-205 (32) and W-209 (50, 51): each command's first byte, its length with its operands, and whether only a snapshot (the paper's group) holds it.
 use Prim.Native.Nat.{ℕ}
 use mathlib.Core.Bool.{Bool, true, false, cond, not, _||_}
 use mathlib.Core.List.{List, [], _∷_}
@@ -50,6 +50,8 @@ commands =
     ∷ command 0x31 7 false
     ∷ command 0x32 11 false
     ∷ command 0x40 1 false
+    ∷ command 0x50 2 false
+    ∷ command 0x51 2 false
     ∷ []
 
 -- the length of the command that a byte begins, 0 where it begins none

@@ -36,6 +36,8 @@ pub fn entry_of(b: u8) -> Entry
         0x31 => Entry(7, false),
         0x32 => Entry(11, false),
         0x40 => Entry(1, false),
+        0x50 => Entry(2, false),
+        0x51 => Entry(2, false),
         _ => Entry(0, false),
     }
 }

@@ -15,10 +15,10 @@ use mir.ValLaws.{ofZ-fits, toZ-ofZ, ofZ-toZ}
 use Rattle.layout.specs.Bytes.{AreBytes, fromBytes, unsignedAt, signedAt}
 use Rattle.saving.specs.Encoding.{toBytes, signedBytes}
 
-bytes-drop : (a : ℕ) (xs : List ℕ) → AreBytes xs → AreBytes (drop a xs)
+pub bytes-drop : (a : ℕ) (xs : List ℕ) → AreBytes xs → AreBytes (drop a xs)
 bytes-drop a xs h i = rw (getD-drop a xs i 0) (h (a + i))
 
-bytes-take : (n : ℕ) (xs : List ℕ) → AreBytes xs → AreBytes (take n xs)
+pub bytes-take : (n : ℕ) (xs : List ℕ) → AreBytes xs → AreBytes (take n xs)
 bytes-take zero xs h i = record { fits = lit< tt }
 bytes-take (suc n) [] h i = h i
 bytes-take (suc n) (x ∷ xs) h zero = h 0

@@ -90,6 +90,10 @@ not-finite = 19
 abbrev pub bad-calendar : ℕ
 bad-calendar = 20
 
+-- The name of a kept state is above 3, or holds nothing when 51 comes. (Checked right after 17.)
+abbrev pub no-checkpoint : ℕ
+no-checkpoint = 21
+
 -- a check: 0 where the test holds, else its rejection
 abbrev pub unless : Bool → ℕ → ℕ
 unless holds n = cond holds 0 n

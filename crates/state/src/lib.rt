@@ -50,6 +50,8 @@ pub const NOT_FINITE: u8 = 19;
 
 pub const BAD_CALENDAR: u8 = 20;
 
+pub const NO_CHECKPOINT: u8 = 21;
+
 // 2^40: level, trend and season values are at most that, and at least its negative.
 pub const MAX_VALUE: i64 = 0x100_0000_0000;
 

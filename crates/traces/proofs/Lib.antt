@@ -4,3 +4,4 @@ pub mod Calendars
 pub mod Results
 pub mod Lists
 pub mod Scores
+pub mod Operations

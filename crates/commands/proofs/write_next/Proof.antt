@@ -14,13 +14,18 @@ written p l = record { performed = p; line = l }
 
 returns : tie.Need-returns
 returns c =
-    let a = c .before .before .before .before .before .before .before .before .before .before .args in
-    let p = c .before .before .before .before .before .before .perform in
+    let a = c .before .before .before .before .before .before .before .before .before .before .before .before .before .before .args in
+    let p = c .before .before .before .before .before .before .before .before .perform in
     let w = c .before .before .write-line .ensures in
     let s = a .stream .now in
-    let d = a .line .now in (
-      ap (written (p .result)) (w .0) ∙ written-is s (a .session) (length d) d (p .result) (p .last .1 .1 .0) (p .ensures .0) (p .ensures .1),
-      w .1 ∙ bytes-are s (a .session) (length d) d (p .result) (p .last .1 .1 .0) (p .ensures .0) (p .ensures .1),
+    let cs = a .checkpoints .now in
+    let d = a .line .now in
+    let saved = p .last .1 .1 .1 .0 in (
+      ap (written (p .result)) (w .0) ∙ written-is s (a .session) cs (length d) d (p .result) saved (p .ensures .0) (p .ensures .1 .1),
+      (
+        p .ensures .1 .0,
+        w .1 ∙ bytes-are s (a .session) cs (length d) d (p .result) saved (p .ensures .0) (p .ensures .1 .1),
+      ),
     )
 
 pub write-next-spec : {M : Type 1} → statement M
@@ -31,5 +36,6 @@ write-next-spec =
     (λ c κs. search needs)
     (λ c. search needs)
     (λ c κs. search needs)
+    (λ c. search needs)
     (λ c. search needs)
     returns)

@@ -1,5 +1,5 @@
 -- `commands::promises::sessions` meets its contract.
-use Rattle.commands.proofs.StreamLaws.{sessions as law}
+use Rattle.commands.proofs.SessionLaws.{sessions as law}
 use Rattle.commands.proofs.promises.sessions.Statement.{statement}
 use Rattle.commands.proofs.promises.sessions.Tie as tie
 

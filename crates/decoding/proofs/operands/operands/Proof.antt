@@ -69,9 +69,26 @@ returns-7 : tie.Need-returns-7
 unfolding operands opens
 returns-7 c = rw (c .if7 .taken)
 
+-- 50 and 51 have a byte after the first
+name-read : tie.Need-shared-slice-read-t22
+unfolding commandSize
+name-read c = omega (arith, rw (c .before .if8 .taken) at (c .before .before .before .before .before .before .before .before .before .before .before .before .pre .1))
+
 returns-8 : tie.Need-returns-8
+unfolding operands opens
+returns-8 c = rw (c .before .if8 .taken)
+
+name-read-2 : tie.Need-shared-slice-read-t25
+unfolding commandSize
+name-read-2 c = omega (arith, rw (c .before .if9 .taken) at (c .before .before .before .before .before .before .before .before .before .before .before .before .before .pre .1))
+
+returns-9 : tie.Need-returns-9
+unfolding operands opens
+returns-9 c = rw (c .before .if9 .taken)
+
+returns-10 : tie.Need-returns-10
 unfolding operands
-returns-8 c = rw (← (c .before .before .before .before .before .before .before .opens .ensures), c .before .before .before .before .before .before .if1 .left, ne-eqb _ _ (c .before .before .before .before .before .if2 .left), ne-eqb _ _ (c .before .before .before .before .if3 .left), ne-eqb _ _ (c .before .before .before .if4 .left), ne-eqb _ _ (c .before .before .if5 .left), ne-eqb _ _ (c .before .if6 .left), ne-eqb _ _ (c .if7 .left))
+returns-10 c = rw (← (c .before .before .before .before .before .before .before .before .before .opens .ensures), c .before .before .before .before .before .before .before .before .if1 .left, ne-eqb _ _ (c .before .before .before .before .before .before .before .if2 .left), ne-eqb _ _ (c .before .before .before .before .before .before .if3 .left), ne-eqb _ _ (c .before .before .before .before .before .if4 .left), ne-eqb _ _ (c .before .before .before .before .if5 .left), ne-eqb _ _ (c .before .before .before .if6 .left), ne-eqb _ _ (c .before .before .if7 .left), ne-eqb _ _ (c .before .if8 .left), ne-eqb _ _ (c .if9 .left))
 
 pub operands-spec : {M : Type 1} → statement M
 operands-spec =
@@ -98,4 +115,10 @@ operands-spec =
     read-u64-requires
     returns-6
     returns-7
-    returns-8)
+    (λ c. search needs)
+    name-read
+    returns-8
+    (λ c. search needs)
+    name-read-2
+    returns-9
+    returns-10)

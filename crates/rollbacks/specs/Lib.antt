@@ -1,0 +1,2 @@
+pub mod Rollbacks
+pub mod Pins
