@@ -27,14 +27,13 @@ use Rattle.replies.specs.declared.Reply.the-variants as reply-of
 use Rattle.decoding.specs.declared.Command.{Command}
 use Rattle.decoding.specs.declared.Decoded.{Decoded}
 use Rattle.commands.specs.Commands.{accepted, rejected, restOffset, openSnapshot, act, buffered, checkpointed, nextCommand, perform, performBytes, performCheckpoints}
-use Rattle.commands.specs.Stream.{snapshotRoom}
 use Rattle.commands.specs.declared.Session.{Session}
 use Rattle.commands.specs.declared.Performed.{Performed}
 
-pub snapshot-most : (s : State) → check s ≡ 0 → length (encoded s) ≤ snapshotRoom
+pub snapshot-most : (s : State) → check s ≡ 0 → length (encoded s) ≤ sizeOf 48
 snapshot-most s e = omega (arith, length-encoded s, bounded s e .period)
 
-pub told-most : (s : State) (n : ℕ) → bytesNeeded s ≡ length-of.Bytes n → n ≤ snapshotRoom
+pub told-most : (s : State) (n : ℕ) → bytesNeeded s ≡ length-of.Bytes n → n ≤ sizeOf 48
 unfolding bytesNeeded
 told-most s n e =
     let l = lengths (check s) (sizeOf (s .period)) in

@@ -1,3 +1,1 @@
 pub mod Commands
-pub mod Stream
-pub mod Promises

@@ -1,10 +1,10 @@
 // A stream of commands played to standard output, one write for each line.
 use checkpoints::CHECKPOINTS_SIZE;
-use commands::MAX_LINE;
-use commands::admit;
-use commands::is_last;
+use streams::MAX_LINE;
+use streams::admit;
+use streams::is_last;
 use commands::start;
-use commands::write_next;
+use streams::write_next;
 use libc::STDOUT_FILENO;
 use lines::Line;
 use lines::write_line;
@@ -13,7 +13,7 @@ use state::Outcome;
 ghost use mathlib.Core.Path.{_≡_};
 ghost use Rattle.checkpoints.specs.Checkpoints.{noCheckpoints};
 ghost use Rattle.commands.specs.Commands.{start};
-ghost use Rattle.commands.specs.Stream.{answersFrom, answers, lastReply};
+ghost use Rattle.streams.specs.Stream.{answersFrom, answers, lastReply};
 
 // Writes a line where all before it were written, and answers whether this one was too: what arrives is always a beginning of the whole text.
 fn show(whole: bool, line: Line, buffer: &[u8]) -> bool {

@@ -20,7 +20,7 @@ use Rattle.traces.specs.Operations.{on-state, perform}
 use Rattle.drift.specs.Exact.{exactDamped, exactResidualBy, adjusted, exactSeasonBy, exactTakeBy, exactBatchBy, exactTrendAt, exactLine, exactForecast, exactForecastBy, exactAfter, expectedLevelsBy, upTo, expected, besideAfter, expectedBy}
 use Rattle.drift.specs.Limits.{AtMost, WithinLimit, AllWithin}
 use Rattle.drift.specs.Pins.{OpensTrendless, beside, compared}
-use Rattle.drift.specs.ClockPins.{ClocksRefused, ClocksNeeded, weekOn, ClocksWander, day, clocks, ClocksShown, ClockPins}
+use Rattle.drift.specs.ClockPins.{ClocksRefused, ClocksNeeded, day, clocks, ClocksShown, ClockPins}
 use Rattle.drift.proofs.Runs.{first}
 use Rattle.drift.proofs.Drift.{demand3}
 
@@ -41,18 +41,6 @@ needed =
       claimed = λ h. le→leb _ _ (h refl .1 refl refl);
       unclaimed = λ z F h power. λ _. ((λ e. absurd (false≢true (sym e))), λ e u. absurd (omega arith));
       seasonless = λ h. le→leb _ _ (h refl .0 refl);
-    }
-
-wander : ClocksWander
-unfolding weekOn AtMost forecastOf seasonAt exactForecast beside compared after result rising disjoint check parametersCode allBelow sumOf sumOk R share dampedTrend seasonBy residual newLevel newTrend newSeason seasonalBy squareOf scoreAfter nextIndex stepCodeBy advanced missingCode step takeCodeBy afterTakeBy runBy batchRun batch batchLevels calendarCode stepCodeOn missingCodeOn batchCodeOn stepOn missingOn batchRunOn batchOn batchLevelsOn trendAt trendLine forecastCodeTo forecastsCodeTo indexFrom forecastBy forecastListBy forecastCodeOn forecastOn forecastsCodeOn forecastsOn forecastCellsOn exactDamped exactResidualBy adjusted exactSeasonBy exactTakeBy exactBatchBy exactTrendAt exactLine exactForecastBy exactAfter expectedLevelsBy upTo expected
-wander =
-    record {
-      opens = (record { typed = record { cells = refl; low = lit< tt }; passes = refl }, refl);
-      readings = refl;
-      gaps = refl;
-      effects = refl;
-      place = refl;
-      beyond = λ h. le→leb _ _ h;
     }
 
 opens : OpensTrendless day
@@ -77,4 +65,4 @@ shown =
     }
 
 pub clock-pins : ClockPins
-clock-pins = record { refused = refused; needed = needed; wander = wander; shown = shown }
+clock-pins = record { refused = refused; needed = needed; shown = shown }

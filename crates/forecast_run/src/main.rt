@@ -1,5 +1,5 @@
 // forecast-run: reads a stream of commands from standard input and prints the line of each.
-use commands::INPUT_LIMIT;
+use streams::INPUT_LIMIT;
 use libc::STDIN_FILENO;
 
 fn main() {

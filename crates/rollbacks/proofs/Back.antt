@@ -14,10 +14,10 @@ use Rattle.decoding.specs.declared.Command.{Command}
 use Rattle.decoding.specs.declared.Decoded.{Decoded}
 use Rattle.replies.specs.declared.Reply.the-variants as reply-of
 use Rattle.commands.specs.Commands.{nextCommand, performCheckpoints, isLast}
-use Rattle.commands.specs.Stream.{snapshotRoom, answersFrom}
+use Rattle.streams.specs.Stream.{snapshotRoom, answersFrom}
 use Rattle.commands.specs.declared.Session.{Session}
 use Rattle.commands.specs.declared.Performed.{Performed}
-use Rattle.commands.proofs.StreamLaws.{next-goes, command-by-command}
+use Rattle.streams.proofs.StreamLaws.{next-goes, command-by-command}
 use Rattle.rollbacks.specs.Rollbacks.{Standing, begins, commandAt, answerAt, after, answersAt, Leads, none, more, anyCommand, KeptAndBack, laterSession, allLater, kept, restored, without, gap, Rollback, Rollbacks}
 use Rattle.rollbacks.proofs.Later.{answers-later, same-line}
 use Rattle.rollbacks.proofs.Accepted.{next-same, perform-same}

@@ -15,7 +15,7 @@ use Rattle.saving.specs.Encoding.{toBytes, modelBytes, levelBytes, scoreBytes, 
 use Rattle.checkpoints.specs.Checkpoints.{storeCode, store, storedBytes, isHeld, restoreCode, restore}
 use Rattle.decoding.specs.Decoding.{inPlace, commandCode, operands, decode}
 use Rattle.commands.specs.Commands.{start, finish, openSnapshot, takeReading, takeMissing, giveForecast, storeState, restoreState, perform, performCheckpoints}
-use Rattle.commands.specs.Stream.{admit, answersIn, answersFrom, answers}
+use Rattle.streams.specs.Stream.{admit, answersIn, answersFrom, answers}
 use Rattle.rollbacks.specs.Rollbacks.{begins, answerAt, after, none, more, KeptAndBack}
 use Rattle.rollbacks.specs.Pins.{repliesOf, holiday, Shown, Needed, Names, Pins}
 

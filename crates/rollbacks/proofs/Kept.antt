@@ -23,13 +23,13 @@ use Rattle.decoding.specs.declared.Decoded.{Decoded}
 use Rattle.decoding.proofs.DecodingLaws.{whole-command}
 use Rattle.replies.specs.declared.Reply.the-variants as reply-of
 use Rattle.commands.specs.Commands.{accepted, rejected, storeState, restoreState, checkpointed, nextCommand, perform, performCheckpoints, isLast}
-use Rattle.commands.specs.Stream.{snapshotRoom, next}
-use Rattle.commands.specs.Promises.{Sound, Holding}
+use Rattle.streams.specs.Stream.{snapshotRoom, next}
+use Rattle.streams.specs.Promises.{Sound, Holding}
 use Rattle.commands.specs.declared.Session.{Session}
 use Rattle.commands.specs.declared.Performed.{Performed}
 use Rattle.commands.proofs.CommandLaws.{performs, keeps}
-use Rattle.commands.proofs.StreamLaws.{start-sound, later-sound, active-is}
-use Rattle.commands.proofs.SessionLaws.{kept}
+use Rattle.streams.proofs.StreamLaws.{start-sound, later-sound, active-is}
+use Rattle.streams.proofs.SessionLaws.{kept}
 use Rattle.rollbacks.specs.Rollbacks.{Standing, begins, commandAt, answerAt, after, Leads, none, more, isStore, anyCommand, notStore}
 
 -- ---- what stands passes its checks, and what the names hold

@@ -39,10 +39,10 @@ use Rattle.replies.specs.declared.Reply.{Reply}
 use Rattle.replies.specs.declared.Reply.the-variants as reply-of
 use Rattle.lines.specs.Lines.{lineOf}
 use Rattle.commands.specs.Commands.{accepted, rejected, byOutcome, byAnswer, byVariance, byRelative, finish, openSnapshot, takeReading, takeMissing, switchState, giveForecast, giveVariance, giveRelativeVariance, saveState, storeState, restoreState, act, checkpointed, nextCommand, perform, performCheckpoints, isLast}
-use Rattle.commands.specs.Stream.{snapshotRoom, next, answersIn, answersFrom, lineAfter}
+use Rattle.streams.specs.Stream.{snapshotRoom, next, answersIn, answersFrom, lineAfter}
 use Rattle.commands.specs.declared.Session.{Session}
 use Rattle.commands.specs.declared.Performed.{Performed}
-use Rattle.commands.proofs.StreamLaws.{next-goes}
+use Rattle.streams.proofs.StreamLaws.{next-goes}
 use Rattle.rollbacks.specs.Rollbacks.{laterReply, laterSession, later, allLater}
 
 -- ---- the command at an offset, by the bytes from there on

@@ -7,8 +7,8 @@ use lib.IntN.{pos}
 use lib.ListN.{take}
 use Rattle.replies.specs.declared.Reply.{Reply}
 use Rattle.replies.specs.declared.Reply.the-variants as reply-of
-use Rattle.commands.specs.Stream.{answers}
-use Rattle.commands.specs.Promises.{listing}
+use Rattle.streams.specs.Stream.{answers}
+use Rattle.streams.specs.Promises.{listing}
 use Rattle.commands.specs.declared.Performed.{Performed}
 use Rattle.rollbacks.specs.Rollbacks.{KeptAndBack, without}
 

@@ -11,7 +11,7 @@ use Rattle.decoding.specs.declared.Command.the-variants as command-of
 use Rattle.replies.specs.declared.Reply.{Reply}
 use Rattle.replies.specs.declared.Reply.the-variants as reply-of
 use Rattle.commands.specs.Commands.{start, nextCommand, performCheckpoints, isLast}
-use Rattle.commands.specs.Stream.{next, answersFrom, lineAfter}
+use Rattle.streams.specs.Stream.{next, answersFrom, lineAfter}
 use Rattle.commands.specs.declared.Session.{Session}
 use Rattle.commands.specs.declared.Performed.{Performed}
 

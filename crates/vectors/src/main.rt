@@ -1,7 +1,7 @@
 // Plays many stored streams: the records of the file that the argument names, as tests/second/streams.py writes them.
 // A record is a kind, a length of 32 bits with the low byte first, and a stream; kind 1 is played cut after each byte.
 
-use commands::INPUT_LIMIT;
+use streams::INPUT_LIMIT;
 ghost use Prim.Native.Nat.{_<_};
 
 // More records than any file of streams has, so that the program ends.

@@ -1,6 +1,6 @@
 -- `console::play` meets its contract.
 use borrow.Author.Needs.{needs}
-use Rattle.commands.proofs.StreamLaws.{last-admitted, last-rejected}
+use Rattle.streams.proofs.StreamLaws.{last-admitted, last-rejected}
 use mathlib.Core.Path.{sym, _∙_}
 use Rattle.console.proofs.play.Statement.{statement}
 use Rattle.console.proofs.play.Tie as tie

@@ -1,12 +1,12 @@
 -- `console::play_commands` meets its contract: what is left of the stream has the whole stream's last answer, and each command that is not the last moves on.
 use borrow.Author.Needs.{needs}
 use Rattle.checkpoints.specs.Checkpoints.{checkpointsSize, noCheckpoints}
-use Rattle.commands.proofs.StreamLaws.{next-goes, last-here, last-later, written-next}
-use Rattle.commands.proofs.SessionLaws.{kept-length}
+use Rattle.streams.proofs.StreamLaws.{next-goes, last-here, last-later, written-next}
+use Rattle.streams.proofs.SessionLaws.{kept-length}
 use Rattle.commands.specs.declared.Session.{Session}
 use Rattle.commands.specs.declared.Performed.{Performed}
-use Rattle.commands.specs.declared.Written.{Written}
-use Rattle.commands.specs.Stream.{next, answersFrom, lastReply}
+use Rattle.streams.specs.declared.Written.{Written}
+use Rattle.streams.specs.Stream.{next, answersFrom, lastReply}
 use Rattle.commands.specs.Commands.{isLast, start}
 use lib.ListN.{length}
 use native.Mathlib.Omega.{arith}

@@ -1,0 +1,4 @@
+pub mod ByteLaws
+pub mod StreamLaws
+pub mod SessionLaws
+pub mod CheckpointLaws
