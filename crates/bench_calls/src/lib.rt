@@ -1,13 +1,13 @@
 // Entry points of the benchmark: calls that the station's C interface does not have, on a lent slice that holds one snapshot.
 // Each returns the rejection's number or 0, as the station's calls do; a rejected call leaves the cells and the lent weight as found.
-use ets::batches::batch;
-use ets::batches::batch_on;
 use forecasts::changes::forecasts_on;
 use forecasts::forecasts;
 use relative::RelativeVariance;
 use relative::relative_variance;
 use snapshot::slices::read;
 use state::code_of;
+use updates::batches::batch;
+use updates::batches::batch_on;
 use weights::Weight;
 use weights::groups::weight_groups;
 use weights::variances::weight;

@@ -85,21 +85,21 @@ fn print_length(length: Length) {
 }
 
 fn play_step(s: State) {
-    let r = ets::steps::step(s, next_i32());
+    let r = steps::step(s, next_i32());
     let residual = r.residual;
     print_answer(residual);
     print_state(r.state);
 }
 
 fn play_missing(s: State) {
-    let r = ets::steps::missing(s);
+    let r = steps::missing(s);
     let outcome = r.outcome;
     print_outcome(outcome);
     print_state(r.state);
 }
 
 fn play_switch(s: State) {
-    let r = state::switching::switch_to_even(s);
+    let r = checks::switching::switch_to_even(s);
     let outcome = r.outcome;
     print_outcome(outcome);
     print_state(r.state);
@@ -116,7 +116,7 @@ fn play_switch_in_place() {
 fn play_batch(s: State, levels: &mut [i64]) {
     let mut space = [0i32; 256];
     let readings = next_readings(&mut space, next_size());
-    let r = ets::batches::batch(s, readings, levels);
+    let r = updates::batches::batch(s, readings, levels);
     let outcome = r.outcome;
     print_outcome(outcome);
     print_number(r.taken as u64);
@@ -192,7 +192,7 @@ pub fn play(operation: u8) {
     }
     match operation {
         1 => play_read(),
-        2 => print_code(state::checks::check(next_state())),
+        2 => print_code(checks::check(next_state())),
         3 => play_step(next_state()),
         4 => play_missing(next_state()),
         6 => print_answer(forecasts::forecast(next_state(), next_u32())),

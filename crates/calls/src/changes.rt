@@ -30,7 +30,7 @@ fn play_missing(s: State, skipped: &[u64], repeated: &[u64]) {
 fn play_batch(s: State, skipped: &[u64], repeated: &[u64], levels: &mut [i64]) {
     let mut space = [0i32; 256];
     let readings = next_readings(&mut space, next_size());
-    let r = ets::batches::batch_on(s, skipped, repeated, readings, levels);
+    let r = updates::batches::batch_on(s, skipped, repeated, readings, levels);
     let outcome = r.outcome;
     print_outcome(outcome);
     print_number(r.taken as u64);

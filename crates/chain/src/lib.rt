@@ -1,10 +1,10 @@
 // Callers that chain real calls, directly and in place: what they are answered is within demand 3's limits by their contracts.
 use c_api::forecaster_forecast;
 use c_api::forecaster_step;
-use ets::steps::step;
 use forecasts::forecast;
 use state::Answer;
 use state::State;
+use steps::step;
 ghost use mathlib.Core.Path.{_≡_};
 ghost use mathlib.Core.List.{[]};
 ghost use Rattle.state.specs.Rejections.{answerCode, answerValue};

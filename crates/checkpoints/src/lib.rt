@@ -1,6 +1,7 @@
 // States kept to go back to: document 02, W-209. A checkpoint is a state that one of the paper's four names holds, a slot the part of a lent buffer that is its.
 pub mod promises;
 
+use checks::check;
 use layout::MAX_SIZE;
 use saving::save;
 use snapshot::Opened;
@@ -9,7 +10,6 @@ use state::NO_CHECKPOINT;
 use state::Outcome;
 use state::SHORT_BUFFER;
 use state::State;
-use state::checks::check;
 use state::first;
 use state::no_state;
 ghost use mathlib.Core.Path.{_≡_};

@@ -1,21 +1,21 @@
 // A reading and a missing reading by two lent lists of clock changes, and the largest forecast of a day inside a window of places: document 02, W-208.
-// The batch by such lists is `ets::batches::batch_on`, the forecasts are in `forecasts::changes`.
+// The batch by such lists is `updates::batches::batch_on`, the forecasts are in `forecasts::changes`.
 pub mod promises;
 pub mod windows;
 
 use calendars::turns::calendar_ok;
 use calendars::turns::start;
 use calendars::turns::walk;
+use checks::check;
 use ets::Missed;
 use ets::Stepped;
-use ets::steps::missing;
-use ets::steps::step;
 use state::Answer;
 use state::BAD_CALENDAR;
 use state::Outcome;
 use state::State;
-use state::checks::check;
 use state::first;
+use steps::missing;
+use steps::step;
 ghost use mathlib.Core.Path.{_≡_};
 ghost use Rattle.calendars.specs.Calendars.{calendarOf};
 ghost use Rattle.ets.specs.Calendars.{stepOn, missingOn};

@@ -1,9 +1,5 @@
 // The recursion of Hyndman's ETS models on a state by value: document 01, "One step" and "Forecast and variance".
-mod arithmetic;
-pub mod batches;
 pub mod promises;
-pub mod steps;
-pub mod updates;
 
 use state::Answer;
 use state::Outcome;

@@ -3,6 +3,8 @@ pub mod changes;
 pub mod promises;
 mod sums;
 
+use checks::check;
+use checks::in_range;
 use models::ONE;
 use models::ties_to_even;
 use state::Answer;
@@ -12,8 +14,6 @@ use state::BAD_VALUE;
 use state::Outcome;
 use state::SHORT_BUFFER;
 use state::State;
-use state::checks::check;
-use state::checks::in_range;
 use state::first;
 use state::unless;
 use sums::fill;

@@ -4,12 +4,12 @@ pub mod in_place;
 pub mod promises;
 mod writing;
 
+use checks::check;
 use layout::Length;
 use layout::size_of;
 use state::Outcome;
 use state::SHORT_BUFFER;
 use state::State;
-use state::checks::check;
 use writing::write_snapshot;
 ghost use mathlib.Core.Path.{_≡_};
 ghost use lib.ListN.{length};

@@ -4,5 +4,4 @@ pub mod Rounding
 pub mod Passing
 pub mod Regions
 pub mod RoundingCode
-pub mod ScoreCode
 pub mod Switches

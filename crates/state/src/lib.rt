@@ -1,13 +1,11 @@
 // The forecaster's state by value and the checks of a state handed in: document 01, "Grains and states".
-pub mod checks;
-pub mod switching;
-
 ghost use mathlib.Core.Path.{_≡_};
 ghost use Rattle.state.specs.Rejections.{unless, _then_, outcomeCode};
 ghost use Rattle.state.specs.Regions.{RegionLaws};
 ghost use Rattle.state.specs.Rounding.{Rounding};
 ghost use Rattle.state.specs.Scores.{noScore};
 ghost use Rattle.state.specs.States.{noState};
+ghost use Rattle.state.specs.Switching.{SwitchLaws};
 
 // The numbers of the refusals of documents 01 and 02.
 pub const INPUT_TOO_LONG: u8 = 1;
@@ -168,4 +166,9 @@ pub fn region_laws()
 // A promise: what R is by each rounding rule.
 pub fn rounding_laws()
     ensures { λ _. ⌜ Rounding ⌝ }
+{}
+
+// A promise: what the switch of the rounding rule leaves.
+pub fn switch_laws()
+    ensures { λ _. ⌜ SwitchLaws ⌝ }
 {}

@@ -5,13 +5,13 @@ pub mod promises;
 mod sums;
 pub mod variances;
 
+use checks::check;
 use forecasts::MAX_HORIZON;
 use forecasts::horizon_ok;
 use models::errors_are;
 use state::BAD_HORIZON;
 use state::OUT_OF_PLACE;
 use state::State;
-use state::checks::check;
 use state::first;
 use state::unless;
 ghost use mathlib.Core.Path.{_≡_};
