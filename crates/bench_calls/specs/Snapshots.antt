@@ -13,7 +13,7 @@ use Rattle.snapshot.specs.Snapshots.{decoded}
 use Rattle.snapshot.specs.Slices.{inPlaceCode}
 use Rattle.weights.specs.Weights.{weight, weightCode, weightValue}
 use Rattle.weights.specs.Groups.{weightGroupsCode, weightGroupCells}
-use Rattle.relative.specs.Relative.{answerCode, answerValue, relativeVariance, relativeCells}
+use Rattle.relative_errors.specs.Relative.{answerCode, answerValue, relativeVariance, relativeCells}
 
 -- a batch: the number returned, the readings taken, and the cells; the snapshot is read and not rewritten
 unfoldable pub batchCode : List ℕ → List ℤ → ℕ → ℕ

@@ -1,16 +1,16 @@
 // Entry points of the benchmark: calls that the station's C interface does not have, on a lent slice that holds one snapshot.
 // Each returns the rejection's number or 0, as the station's calls do; a rejected call leaves the cells and the lent weight as found.
-use forecasts::changes::forecasts_on;
-use forecasts::forecasts;
-use relative::RelativeVariance;
-use relative::relative_variance;
+use forecasting::changes::forecasts_on;
+use forecasting::forecasts;
+use relative_errors::RelativeVariance;
+use relative_variance::relative_variance;
 use snapshot::slices::read;
 use state::code_of;
 use updates::batches::batch;
 use updates::batches::batch_on;
+use weighting::groups::weight_groups;
+use weighting::variances::weight;
 use weights::Weight;
-use weights::groups::weight_groups;
-use weights::variances::weight;
 ghost use mathlib.Core.Path.{_≡_};
 ghost use lib.ListN.{length};
 ghost use Rattle.calendars.specs.Calendars.{calendarOf};

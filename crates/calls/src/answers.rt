@@ -22,7 +22,7 @@ use super::printing::print_state;
 use super::printing::print_values;
 use layout::Length;
 use libc::STDIN_FILENO;
-use relative::RelativeVariance;
+use relative_errors::RelativeVariance;
 use state::Answer;
 use state::Outcome;
 use state::State;
@@ -130,9 +130,9 @@ fn play_cells(operation: u8, s: State) {
     if operation == 5 {
         play_batch(s, values);
     } else if operation == 7 {
-        print_outcome(forecasts::forecasts(s, next_u32(), values));
+        print_outcome(forecasting::forecasts(s, next_u32(), values));
     } else {
-        print_outcome(forecasts::display_forecasts(s, next_u32(), values));
+        print_outcome(forecasting::display_forecasts(s, next_u32(), values));
     }
     print_values(values);
 }
@@ -140,21 +140,21 @@ fn play_cells(operation: u8, s: State) {
 fn play_weight_groups(s: State) {
     let mut space = [77u64; 520];
     let cells = first_numbers(&mut space, next_size());
-    print_outcome(weights::groups::weight_groups(s, next_u32(), cells));
+    print_outcome(weighting::groups::weight_groups(s, next_u32(), cells));
     print_numbers(cells);
 }
 
 fn play_coefficients(s: State) {
     let mut space = [77u64; 520];
     let cells = first_numbers(&mut space, next_size());
-    print_outcome(weights::coefficients::coefficients(s, next_u32(), cells));
+    print_outcome(weighting::coefficients::coefficients(s, next_u32(), cells));
     print_numbers(cells);
 }
 
 fn play_relative(s: State) {
     let mut space = [77.0f64; 520];
     let cells = first_doubles(&mut space, next_size());
-    print_relative(relative::relative_variance(s, next_u32(), next_u64(), cells));
+    print_relative(relative_variance::relative_variance(s, next_u32(), next_u64(), cells));
     print_doubles(cells);
 }
 
@@ -195,11 +195,11 @@ pub fn play(operation: u8) {
         2 => print_code(checks::check(next_state())),
         3 => play_step(next_state()),
         4 => play_missing(next_state()),
-        6 => print_answer(forecasts::forecast(next_state(), next_u32())),
-        8 => print_weight(weights::variances::weight(next_state(), next_u32())),
-        9 => print_variance(weights::variances::variance(next_state(), next_u32(), next_u32())),
+        6 => print_answer(forecasting::forecast(next_state(), next_u32())),
+        8 => print_weight(weighting::variances::weight(next_state(), next_u32())),
+        9 => print_variance(weighting::variances::variance(next_state(), next_u32(), next_u32())),
         10 => play_save(next_state()),
-        11 => print_answer(forecasts::display_forecast(next_state(), next_u32())),
+        11 => print_answer(forecasting::display_forecast(next_state(), next_u32())),
         13 => play_switch(next_state()),
         14 => play_switch_in_place(),
         15 => play_weight_groups(next_state()),

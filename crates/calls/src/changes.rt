@@ -44,7 +44,7 @@ fn play_cells(operation: u8, s: State, skipped: &[u64], repeated: &[u64]) {
     if operation == 20 {
         play_batch(s, skipped, repeated, values);
     } else {
-        print_outcome(forecasts::changes::forecasts_on(s, skipped, repeated, next_u32(), values));
+        print_outcome(forecasting::changes::forecasts_on(s, skipped, repeated, next_u32(), values));
     }
     print_values(values);
 }
@@ -64,7 +64,7 @@ pub fn play(operation: u8, s: State) {
     match operation {
         18 => play_step(s, skipped, repeated),
         19 => play_missing(s, skipped, repeated),
-        21 => print_answer(forecasts::changes::forecast_on(s, skipped, repeated, next_u32())),
+        21 => print_answer(forecasting::changes::forecast_on(s, skipped, repeated, next_u32())),
         23 => play_window(s, skipped, repeated),
         _ => play_cells(operation, s, skipped, repeated),
     }

@@ -1,7 +1,7 @@
 // Callers that chain real calls, directly and in place: what they are answered is within demand 3's limits by their contracts.
 use c_api::forecaster_forecast;
 use c_api::forecaster_step;
-use forecasts::forecast;
+use forecasting::forecast;
 use state::Answer;
 use state::State;
 use steps::step;

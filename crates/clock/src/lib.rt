@@ -1,5 +1,5 @@
 // A reading and a missing reading by two lent lists of clock changes, and the largest forecast of a day inside a window of places: document 02, W-208.
-// The batch by such lists is `updates::batches::batch_on`, the forecasts are in `forecasts::changes`.
+// The batch by such lists is `updates::batches::batch_on`, the forecasts are in `forecasting::changes`.
 pub mod promises;
 pub mod windows;
 

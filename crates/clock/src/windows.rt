@@ -1,7 +1,7 @@
 // A quiet window: a half-open span of the places of a day, running on from 23 to 0 where its end is the smaller.
 use calendars::turns::start;
 use calendars::turns::walk;
-use forecasts::changes::forecasts_on;
+use forecasting::changes::forecasts_on;
 use state::Answer;
 use state::BAD_CALENDAR;
 use state::State;

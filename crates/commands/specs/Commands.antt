@@ -22,9 +22,9 @@ use Rattle.snapshot.specs.Snapshots.{openCode, openOffset, read}
 use Rattle.saving.specs.Encoding.{encoded}
 use Rattle.saving.specs.Saving.{save, savedBytes}
 use Rattle.checkpoints.specs.Checkpoints.{store, storedBytes, restore}
-use Rattle.relative.specs.Relative.{relativeVariance}
-use Rattle.relative.specs.declared.RelativeVariance.{RelativeVariance}
-use Rattle.relative.specs.declared.RelativeVariance.the-variants as relative-of
+use Rattle.relative_errors.specs.Relative.{relativeVariance}
+use Rattle.relative_errors.specs.declared.RelativeVariance.{RelativeVariance}
+use Rattle.relative_errors.specs.declared.RelativeVariance.the-variants as relative-of
 use Rattle.decoding.specs.Decoding.{decode}
 use Rattle.decoding.specs.declared.Decoded.{Decoded}
 use Rattle.decoding.specs.declared.Command.{Command}

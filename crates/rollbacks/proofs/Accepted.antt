@@ -20,11 +20,11 @@ use Rattle.state.specs.declared.Answer.the-variants as answer-of
 use Rattle.ets.specs.Steps.{step, missing}
 use Rattle.forecasts.specs.Forecasts.{maxHorizon, forecast}
 use Rattle.weights.specs.Weights.{variance}
-use Rattle.relative.specs.Relative.{relativeVariance}
+use Rattle.relative_errors.specs.Relative.{relativeVariance}
 use Rattle.weights.specs.declared.Variance.{Variance}
 use Rattle.weights.specs.declared.Variance.the-variants as variance-of
-use Rattle.relative.specs.declared.RelativeVariance.{RelativeVariance}
-use Rattle.relative.specs.declared.RelativeVariance.the-variants as relative-of
+use Rattle.relative_errors.specs.declared.RelativeVariance.{RelativeVariance}
+use Rattle.relative_errors.specs.declared.RelativeVariance.the-variants as relative-of
 use Rattle.layout.specs.Bytes.{AreBytes}
 use Rattle.layout.specs.CommandTable.{commandSize}
 use Rattle.layout.specs.Layout.{outsideIn}

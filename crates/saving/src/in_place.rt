@@ -9,7 +9,7 @@ use super::writing::write_season;
 use super::writing::write_snapshot;
 use calendars::turns::next_index;
 use ets::Update;
-use forecasts::forecast_from;
+use forecasting::forecast_from;
 use layout::MODEL_BYTE_AT;
 use layout::size_of;
 use models::to_even;

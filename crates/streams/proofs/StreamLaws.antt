@@ -26,9 +26,9 @@ use Rattle.ets.proofs.Kept.{reading-kept, reading-typed, missing-kept}
 use Rattle.weights.specs.Weights.{variance}
 use Rattle.weights.specs.declared.Variance.{Variance}
 use Rattle.weights.specs.declared.Variance.the-variants as variance-of
-use Rattle.relative.specs.Relative.{relativeVariance}
-use Rattle.relative.specs.declared.RelativeVariance.{RelativeVariance}
-use Rattle.relative.specs.declared.RelativeVariance.the-variants as relative-of
+use Rattle.relative_errors.specs.Relative.{relativeVariance}
+use Rattle.relative_errors.specs.declared.RelativeVariance.{RelativeVariance}
+use Rattle.relative_errors.specs.declared.RelativeVariance.the-variants as relative-of
 use Rattle.layout.specs.Bytes.{AreBytes}
 use Rattle.layout.specs.CommandTable.{commandSize, opens}
 use Rattle.snapshot.specs.Snapshots.{openCode, openOffset, decoded, read}

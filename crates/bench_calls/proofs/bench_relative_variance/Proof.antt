@@ -3,7 +3,7 @@ use lib.ListN.{length}
 use borrow.Author.Tests.{ne-eqb}
 use Rattle.snapshot.specs.Slices.{inPlaceCode}
 use Rattle.bench_calls.proofs.Opened.{code-is, state-is}
-use Rattle.relative.specs.Relative.{relativeVariance, relativeCells}
+use Rattle.relative_errors.specs.Relative.{relativeVariance, relativeCells}
 use Rattle.snapshot.specs.Snapshots.{decoded}
 use Rattle.bench_calls.specs.Snapshots.{inPlaceRelativeCode, inPlaceRelativeValue, inPlaceRelativeCells}
 use borrow.Author.Needs.{needs}

@@ -1,7 +1,7 @@
 -- `commands::performing::give_relative_variance` meets its contract: an accepted answer is no NaN, so that it has its bits.
 use mathlib.Core.Path.{sym, _∙_}
 use borrow.Author.Needs.{needs}
-use Rattle.relative.proofs.Finite.{accepted-is-finite}
+use Rattle.relative_errors.proofs.Finite.{accepted-is-finite}
 use Rattle.commands.specs.Commands.{giveRelativeVariance}
 use Rattle.commands.proofs.performing.give_relative_variance.Statement.{statement}
 use Rattle.commands.proofs.performing.give_relative_variance.Tie as tie
