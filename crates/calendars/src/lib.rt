@@ -1,6 +1,4 @@
 // A calendar of clock changes (document 02, W-208): two lists of step counts, tested in one pass and walked by cursors.
-pub mod turns;
-
 ghost use mathlib.Core.Path.{_≡_};
 ghost use Prim.Native.Nat.{suc, _<_};
 ghost use lib.ListN.{length, drop, getD};

@@ -14,14 +14,14 @@ use super::printing::print_values;
 use state::State;
 
 fn play_step(s: State, skipped: &[u64], repeated: &[u64]) {
-    let r = clock::step_on(s, skipped, repeated, next_i32());
+    let r = clock_changes::step_on(s, skipped, repeated, next_i32());
     let residual = r.residual;
     print_answer(residual);
     print_state(r.state);
 }
 
 fn play_missing(s: State, skipped: &[u64], repeated: &[u64]) {
-    let r = clock::missing_on(s, skipped, repeated);
+    let r = clock_changes::missing_on(s, skipped, repeated);
     let outcome = r.outcome;
     print_outcome(outcome);
     print_state(r.state);
@@ -52,7 +52,7 @@ fn play_cells(operation: u8, s: State, skipped: &[u64], repeated: &[u64]) {
 fn play_window(s: State, skipped: &[u64], repeated: &[u64]) {
     let first = next_byte();
     let end = next_byte();
-    print_answer(clock::windows::window_maximum(s, skipped, repeated, first, end));
+    print_answer(windows::window_maximum(s, skipped, repeated, first, end));
 }
 
 // A list has at most 64 counts.

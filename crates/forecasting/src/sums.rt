@@ -1,9 +1,9 @@
 // The sums of a forecast, from a state that passed its checks.
-use calendars::turns::start;
-use calendars::turns::walk;
 use models::has_season;
 use models::ties_to_even;
 use state::State;
+use turns::start;
+use turns::walk;
 ghost use mathlib.Core.Path.{_≡_};
 ghost use mathlib.Core.List.{_++_};
 ghost use Prim.Native.Nat.{_≤_, _<_};

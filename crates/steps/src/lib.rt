@@ -1,5 +1,4 @@
 // A reading and a missing reading on a state by value.
-use calendars::turns::next_index;
 use checks::check;
 use ets::Missed;
 use ets::Numbers;
@@ -10,6 +9,7 @@ use state::Answer;
 use state::Outcome;
 use state::Score;
 use state::State;
+use turns::next_index;
 use updates::update;
 use updates::update_missing;
 use updates::update_score;
