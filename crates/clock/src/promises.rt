@@ -8,7 +8,7 @@ pub fn calendar_laws()
     ensures { λ _. ⌜ CalendarLaws ⌝ }
 {}
 
-// Computed: a skip, a repeat, counts without effect, the walk of a forecast, the ends of windows, and the place of 20 in the order.
+// Computed: the ends of windows.
 pub fn pins()
     ensures { λ _. ⌜ Pins ⌝ }
 {}

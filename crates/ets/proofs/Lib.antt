@@ -5,3 +5,4 @@ pub mod Kept
 pub mod CalendarLaws
 pub mod BatchLaws
 pub mod MissingLaws
+pub mod Computed

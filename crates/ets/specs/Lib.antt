@@ -4,3 +4,4 @@ pub mod Calendars
 pub mod Updates
 pub mod Bounds
 pub mod Promises
+pub mod Pins

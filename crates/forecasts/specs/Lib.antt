@@ -1,3 +1,4 @@
 pub mod Forecasts
 pub mod Calendars
 pub mod Promises
+pub mod Pins

@@ -7,7 +7,7 @@ use lib.IntN.{ℤ}
 use lib.Ieee.{Float}
 use Rattle.models.specs.Models.{toAdditive, hasRelativeErrors}
 use Rattle.state.specs.Rejections.{out-of-place}
-use Rattle.state.specs.States.{check}
+use Rattle.state.specs.States.{withModel, check}
 use Rattle.state.specs.Switching.{switchToEven}
 use Rattle.state.specs.declared.State.{State}
 use Rattle.state.specs.declared.Outcome.the-variants as outcome-of
@@ -23,22 +23,7 @@ use Rattle.relative_errors.specs.declared.RelativeVariance.the-variants 
 
 -- bit 3 of the model byte is set, and all else is kept
 abbrev pub withRelativeErrors : State → State
-withRelativeErrors s =
-    record {
-      outside = s .outside;
-      model = toAdditive (s .model) + 8;
-      period = s .period;
-      alpha = s .alpha;
-      beta = s .beta;
-      gamma = s .gamma;
-      phi = s .phi;
-      level = s .level;
-      trend = s .trend;
-      seasonal = s .seasonal;
-      index = s .index;
-      count = s .count;
-      score = s .score;
-    }
+withRelativeErrors s = withModel (toAdditive (s .model) + 8) s
 
 -- the checks, the steps, one by one and in a batch, the switch of the rounding rule and the point forecasts, rejected ones included, are those of the state as it was
 pub record SameNumbers (s : State) : Type 0 where

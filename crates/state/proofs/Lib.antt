@@ -5,3 +5,4 @@ pub mod Passing
 pub mod Regions
 pub mod RoundingCode
 pub mod Switches
+pub mod Computed

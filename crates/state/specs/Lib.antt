@@ -6,3 +6,4 @@ pub mod Valid
 pub mod Rounding
 pub mod Regions
 pub mod Switching
+pub mod Pins

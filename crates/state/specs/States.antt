@@ -52,6 +52,25 @@ moved s l b cells p count score =
       score = score;
     }
 
+-- the state with another model byte; all else is kept
+abbrev pub withModel : ℕ → State → State
+withModel model s =
+    record {
+      outside = s .outside;
+      model = model;
+      period = s .period;
+      alpha = s .alpha;
+      beta = s .beta;
+      gamma = s .gamma;
+      phi = s .phi;
+      level = s .level;
+      trend = s .trend;
+      seasonal = s .seasonal;
+      index = s .index;
+      count = s .count;
+      score = s .score;
+    }
+
 -- what the types of the code's state hold, beside its checks: 48 season cells, and a low word of 64 bits
 pub record Typed (s : State) : Type 0 where
   pub cells : length (s .seasonal) ≡ 48

@@ -4,28 +4,13 @@ use mathlib.Core.Path.{_≡_}
 use mathlib.Core.Bool.{true}
 use Rattle.models.specs.Models.{hasTrend, hasSeason, hasRelativeErrors, tiesToEven, toEven}
 use Rattle.state.specs.Rejections.{accepting, outcome}
-use Rattle.state.specs.States.{check}
+use Rattle.state.specs.States.{withModel, check}
 use Rattle.state.specs.declared.State.{State}
 use Rattle.state.specs.declared.Switched.{Switched}
 
 -- bit 6 of the model byte is set, and all else is kept
 abbrev pub switched : State → State
-switched s =
-    record {
-      outside = s .outside;
-      model = toEven (s .model);
-      period = s .period;
-      alpha = s .alpha;
-      beta = s .beta;
-      gamma = s .gamma;
-      phi = s .phi;
-      level = s .level;
-      trend = s .trend;
-      seasonal = s .seasonal;
-      index = s .index;
-      count = s .count;
-      score = s .score;
-    }
+switched s = withModel (toEven (s .model)) s
 
 -- the call, rejected by the state's checks
 unfoldable pub switchToEven : State → Switched

@@ -1,6 +1,7 @@
 // The forecaster's state by value and the checks of a state handed in: document 01, "Grains and states".
 ghost use mathlib.Core.Path.{_≡_};
 ghost use Rattle.state.specs.Rejections.{unless, _then_, outcomeCode};
+ghost use Rattle.state.specs.Pins.{Pins};
 ghost use Rattle.state.specs.Regions.{RegionLaws};
 ghost use Rattle.state.specs.Rounding.{Rounding};
 ghost use Rattle.state.specs.Scores.{noScore};
@@ -171,4 +172,9 @@ pub fn rounding_laws()
 // A promise: what the switch of the rounding rule leaves.
 pub fn switch_laws()
     ensures { λ _. ⌜ SwitchLaws ⌝ }
+{}
+
+// A promise, computed: the order of the checks, and what the switch of the rounding rule leaves.
+pub fn pins()
+    ensures { λ _. ⌜ Pins ⌝ }
 {}

@@ -2,3 +2,4 @@ pub mod CoefficientLaws
 pub mod GroupLaws
 pub mod Rejecting
 pub mod Terms
+pub mod Computed

@@ -2,6 +2,7 @@
 ghost use Prim.Native.Nat.{ℕ};
 ghost use Rattle.weights.specs.Weights.{AnswerCases};
 ghost use Rattle.weights.specs.Promises.{GroupLaws};
+ghost use Rattle.weights.specs.Pins.{Pins};
 
 // 2^32 plus the groups is the weight, for every horizon, season length and model.
 pub fn group_laws()
@@ -11,4 +12,9 @@ pub fn group_laws()
 // Each case of the answers is told by document 01's number and its values.
 pub fn cases()
     ensures { λ _. ⌜ ((n v : ℕ) → AnswerCases n v) ⌝ }
+{}
+
+// Computed: coefficients, and the group of each square.
+pub fn pins()
+    ensures { λ _. ⌜ Pins ⌝ }
 {}
