@@ -7,9 +7,9 @@ use Rattle.state.specs.Scores.{sumOf, sumOk}
 use Rattle.state.specs.States.{check, parametersCode}
 use Rattle.calendars.specs.Turns.{nextIndex}
 use Rattle.ets.specs.Steps.{dampedTrend, seasonBy, residual, newLevel, newTrend, newSeason, seasonalBy, squareOf, scoreAfter, advanced, missingCode, stepCodeBy, step, missing}
-use Rattle.ets.specs.Batches.{runBy}
+use Rattle.ets.specs.Batches.{takeCodeBy, afterTakeBy, runBy, batchRun, batch, batchLevels}
 use Rattle.ets.specs.Calendars.{calendarCode, stepCodeOn, missingCodeOn, batchCodeOn, stepOn, missingOn, batchRunOn, batchOn}
-use Rattle.ets.specs.Pins.{GapPins, OrderPins, StepPins, RejectionPins, Pins}
+use Rattle.ets.specs.Pins.{GapPins, OrderPins, BatchPins, StepPins, RejectionPins, Pins}
 
 gap-pins : GapPins
 unfolding allBelow R share sumOf sumOk check parametersCode nextIndex dampedTrend seasonBy advanced missingCode missing
@@ -18,6 +18,10 @@ gap-pins = record { level = refl; trend = refl; season = refl }
 order-pins : OrderPins
 unfolding allBelow R share sumOf sumOk check parametersCode nextIndex dampedTrend seasonBy residual newLevel newTrend newSeason stepCodeBy step
 order-pins = record { state-first = refl }
+
+batch-pins : BatchPins
+unfolding allBelow R share sumOf sumOk check parametersCode nextIndex dampedTrend seasonBy residual newLevel newTrend newSeason seasonalBy squareOf scoreAfter advanced missingCode stepCodeBy takeCodeBy afterTakeBy runBy batchRun batch batchLevels
+batch-pins = record { levels = refl; halted = refl; taken = refl; short = refl }
 
 step-pins : StepPins
 unfolding allBelow rising disjoint R share sumOf sumOk check parametersCode nextIndex dampedTrend seasonBy residual newLevel newTrend newSeason seasonalBy squareOf scoreAfter advanced calendarCode stepCodeOn missingCodeOn stepOn missingOn
@@ -50,4 +54,4 @@ rejection-pins =
     }
 
 pub pins : Pins
-pins = record { gaps = gap-pins; order = order-pins; steps = step-pins; rejections = rejection-pins }
+pins = record { gaps = gap-pins; order = order-pins; batches = batch-pins; steps = step-pins; rejections = rejection-pins }

@@ -13,6 +13,7 @@ use Rattle.state.specs.declared.State.{State}
 use Rattle.state.specs.declared.Answer.the-variants as answer-of
 use Rattle.state.specs.declared.Outcome.the-variants as outcome-of
 use Rattle.ets.specs.Steps.{step, missing}
+use Rattle.ets.specs.Batches.{batch, batchLevels}
 use Rattle.ets.specs.Calendars.{stepOn, missingOn, batchOn}
 
 -- so many reading units
@@ -81,8 +82,19 @@ pub record RejectionPins : Type 0 where
   -- m is not 24: no season
   pub no-season : stepOn (skips []) (stateOf false 0 0 32768 0 0 0 (pos 0) (pos 0) [] 0 0 noScore) (pos 0) .residual ≡ answer-of.Rejected 20
 
+-- ---- a batch: the level after each reading, and after a reading that halts it no cell more
+abbrev pub halving : State
+halving = stateOf false 0 0 32768 0 0 0 (pos 0) (pos 0) [] 0 0 noScore
+
+pub record BatchPins : Type 0 where
+  pub levels : batchLevels halving (pos 10 ∷ pos 20 ∷ []) (pos 7 ∷ pos 7 ∷ pos 7 ∷ []) ≡ pos 327680 ∷ pos 819200 ∷ pos 7 ∷ []
+  pub halted : batchLevels halving (pos 10 ∷ pos 1000001 ∷ pos 20 ∷ []) (pos 7 ∷ pos 7 ∷ pos 7 ∷ []) ≡ pos 327680 ∷ pos 7 ∷ pos 7 ∷ []
+  pub taken : batch halving (pos 10 ∷ pos 1000001 ∷ pos 20 ∷ []) 3 .taken ≡ 1
+  pub short : batchLevels halving (pos 10 ∷ pos 20 ∷ []) (pos 7 ∷ []) ≡ pos 7 ∷ []
+
 pub record Pins : Type 0 where
   pub gaps : GapPins
   pub order : OrderPins
+  pub batches : BatchPins
   pub steps : StepPins
   pub rejections : RejectionPins
