@@ -24,7 +24,7 @@ use Rattle.ets.specs.Calendars.{calendarCode, stepCodeOn, missingCodeOn, stepOn
 use Rattle.ets.proofs.UpdateLaws.{damped-is}
 use Rattle.ets.proofs.CalendarLaws.{missing-on-facts, walkable, missing-kept-by}
 use Rattle.ets.proofs.StepLaws.{missing-facts}
-use Rattle.forecasts.specs.Forecasts.{trendLine, maxHorizon, forecastCodeTo, forecastCode, forecastTo, forecast, forecastsCodeTo, forecastsCode, forecastsTo, forecasts, forecastCellsTo, forecastCells}
+use Rattle.forecasts.specs.Forecasts.{trendLine, maxHorizon, forecastCodeTo, forecastCode, forecastTo, forecast, forecastsCodeTo, forecastsCode, forecastsTo, forecastCellsTo, forecastCells}
 use Rattle.forecasts.specs.Calendars.{indexFrom, placeFrom, forecastBy, forecastCodeOn, forecastOn, forecastsCodeOn, forecastsOn, forecastCellsOn}
 use Rattle.forecasts.proofs.ForecastLaws.{forecast-ready}
 use Rattle.forecasts.proofs.MissingLaws.{line-on}

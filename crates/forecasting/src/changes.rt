@@ -1,8 +1,8 @@
 // Forecasts that walk two lent lists of clock changes (document 02, W-208): refusal 20 comes right after 12.
-use super::forecast_code;
 use super::sums::fill;
 use super::sums::place_at;
 use super::sums::trend_line;
+use horizons::forecast_code;
 use models::ties_to_even;
 use state::Answer;
 use state::BAD_CALENDAR;

@@ -2,10 +2,13 @@
 pub mod changes;
 mod sums;
 
-use checks::check;
-use checks::in_range;
+use horizons::DISPLAY_HORIZON;
+use horizons::MAX_HORIZON;
+use horizons::forecast_code_to;
+use horizons::horizon_ok;
 use models::ONE;
 use models::ties_to_even;
+use ranges::in_range;
 use state::Answer;
 use state::BAD_HORIZON;
 use state::BAD_PARAMETER;
@@ -21,32 +24,7 @@ use sums::trend_line;
 ghost use mathlib.Core.Path.{_≡_};
 ghost use Prim.Native.Nat.{_≤_};
 ghost use lib.ListN.{length};
-ghost use Rattle.forecasts.specs.Forecasts.{horizonOk, forecastCodeTo, forecastTo, forecastsTo, forecastCellsTo, forecastCode, forecast, forecasts, forecastCells, displayForecast, displayForecasts, displayForecastCells, forecastFromCode, forecastFrom};
-
-// The longest horizon; and that of the bedside display, which has 48 cells (document 02, W-206).
-pub const MAX_HORIZON: u32 = 512;
-
-const DISPLAY_HORIZON: u32 = 48;
-
-// Whether a horizon is at least 1 and not above a limit.
-pub fn horizon_ok(limit: u32, h: u32) -> bool
-    ensures { λ r. ⌜ r ≡ horizonOk limit h ⌝ }
-{
-    (1 <= h) & (h <= limit)
-}
-
-fn forecast_code_to(limit: u32, s: State, h: u32) -> u8
-    ensures { λ r. ⌜ r ≡ forecastCodeTo limit s h ⌝ }
-{
-    first(check(s), unless(horizon_ok(limit, h), BAD_HORIZON))
-}
-
-// What rejects a forecast, or 0.
-pub fn forecast_code(s: State, h: u32) -> u8
-    ensures { λ r. ⌜ r ≡ forecastCode s h ⌝ }
-{
-    forecast_code_to(MAX_HORIZON, s, h)
-}
+ghost use Rattle.forecasts.specs.Forecasts.{forecastTo, forecastsTo, forecastCellsTo, forecast, forecasts, forecastCells, displayForecast, displayForecasts, displayForecastCells, forecastFromCode, forecastFrom};
 
 fn forecast_to(limit: u32, s: State, h: u32) -> Answer
     requires { ⌜ limit ≤ 512 ⌝ }

@@ -1,24 +1,23 @@
 // The arithmetic of one step, on numbers within the bounds of a state that passed its checks.
-use checks::in_range;
-use checks::is_reading;
 use ets::Numbers;
 use ets::Terms;
 use ets::Update;
-use state::BAD_READING;
-use state::COUNT_FULL;
+use ranges::in_range;
 use state::LEAVES_RANGE;
-use state::MAX_COUNT;
 use state::Score;
 use state::first;
 use state::unless;
+use update_checks::count_code;
+use update_checks::early_code;
+use update_checks::not_updated;
+use update_checks::stays;
 ghost use mathlib.Core.Path.{_≡_};
-ghost use mathlib.Core.Bool.{_&&_};
 ghost use Prim.Native.Nat.{_≤_};
 ghost use Rattle.integers.specs.Bounds.{Within};
-ghost use Rattle.state.specs.Rejections.{unless, _then_, bad-reading};
-ghost use Rattle.state.specs.Fixed.{R, share, inRange, isReading};
-ghost use Rattle.ets.specs.Steps.{residual, squareOf, scoreAfter, countCode};
-ghost use Rattle.ets.specs.Updates.{termsAt, corrections, notUpdated, readingUpdate, advance, missingUpdate};
+ghost use Rattle.state.specs.Rejections.{unless};
+ghost use Rattle.state.specs.Fixed.{R, share};
+ghost use Rattle.ets.specs.Steps.{residual, squareOf, scoreAfter};
+ghost use Rattle.ets.specs.Updates.{termsAt, corrections, readingUpdate, advance, missingUpdate};
 ghost use Rattle.ets.specs.Bounds.{NumbersIn, AdvanceIn, TermsIn, ScoreIn};
 
 // R(v): what is added before the shift makes it round to nearest. For ties to even it is one less where the whole part is even, without a branch.
@@ -112,37 +111,6 @@ fn corrections(t: Terms, e: i64) -> Update
         season: t.season + share(t.even, t.gamma, e),
         residual: e,
     }
-}
-
-pub fn not_updated(code: u8) -> Update
-    ensures { λ r. ⌜ r ≡ notUpdated code ⌝ }
-{
-    Update {
-        code,
-        level: 0,
-        trend: 0,
-        season: 0,
-        residual: 0,
-    }
-}
-
-fn stays(u: Update) -> bool
-    ensures { λ r. ⌜ r ≡ (inRange (u .level) && inRange (u .trend) && inRange (u .season)) ⌝ }
-{
-    in_range(u.level) & in_range(u.trend) & in_range(u.season)
-}
-
-pub fn count_code(count: u64) -> u8
-    ensures { λ r. ⌜ r ≡ countCode count ⌝ }
-{
-    unless(count != MAX_COUNT, COUNT_FULL)
-}
-
-// 13, then 14.
-fn early_code(count: u64, y: i32) -> u8
-    ensures { λ r. ⌜ r ≡ (unless (isReading y) bad-reading then countCode count) ⌝ }
-{
-    first(unless(is_reading(y), BAD_READING), count_code(count))
 }
 
 // A reading: its rejection (13, 14, 15), or the numbers after it.

@@ -3,47 +3,19 @@ mod arithmetic;
 pub mod batches;
 
 use arithmetic::missing_update;
-use arithmetic::not_updated;
 use arithmetic::reading_update;
 use arithmetic::score_after;
-use checks::count_ok;
-use checks::in_range;
-use checks::is_residual;
-use checks::score_ok;
 use ets::Numbers;
 use ets::Update;
-use models::ONE;
-use state::BAD_PARAMETER;
-use state::BAD_POSITION;
-use state::BAD_VALUE;
+use ranges::count_ok;
+use ranges::is_residual;
+use ranges::score_ok;
 use state::Score;
-use state::first;
-use state::unless;
+use update_checks::advance_code;
+use update_checks::not_updated;
+use update_checks::numbers_code;
 ghost use mathlib.Core.Path.{_≡_};
-ghost use Rattle.ets.specs.Updates.{gainsOk, rangesOk, numbersCode, update, advanceCode, updateMissing, updateScore};
-
-fn gains_ok(n: Numbers) -> bool
-    ensures { λ r. ⌜ r ≡ gainsOk n ⌝ }
-{
-    (n.alpha <= ONE) & (n.beta <= ONE) & (n.gamma <= ONE) & (n.phi <= ONE)
-}
-
-fn ranges_ok(n: Numbers) -> bool
-    ensures { λ r. ⌜ r ≡ rangesOk n ⌝ }
-{
-    in_range(n.level) & in_range(n.trend) & in_range(n.season)
-}
-
-// What rejects the numbers of a reading, or 0.
-fn numbers_code(n: Numbers) -> u8
-    ensures { λ r. ⌜ r ≡ numbersCode n ⌝ }
-{
-    let code = first(
-        unless(gains_ok(n), BAD_PARAMETER),
-        unless(ranges_ok(n), BAD_VALUE),
-    );
-    first(code, unless(count_ok(n.count), BAD_POSITION))
-}
+ghost use Rattle.ets.specs.Updates.{update, updateMissing, updateScore};
 
 // A reading on the rounding rule and the numbers of a state: what it makes of them, or the rejection.
 pub fn update(even: bool, n: Numbers, y: i32) -> Update
@@ -54,18 +26,6 @@ pub fn update(even: bool, n: Numbers, y: i32) -> Update
         return not_updated(code);
     }
     reading_update(even, n, y)
-}
-
-// The same of the numbers that a missing reading has a use for: no gain and no season value is among them.
-fn advance_code(n: Numbers) -> u8
-    ensures { λ r. ⌜ r ≡ advanceCode n ⌝ }
-{
-    let ranges = in_range(n.level) & in_range(n.trend);
-    let values = first(
-        unless(n.phi <= ONE, BAD_PARAMETER),
-        unless(ranges, BAD_VALUE),
-    );
-    first(values, unless(count_ok(n.count), BAD_POSITION))
 }
 
 // A missing reading on the rounding rule and the numbers of a state.

@@ -3,7 +3,7 @@ use super::sums::coefficient;
 use super::sums::group_count;
 use super::sums::next_damping;
 use super::sums::next_remainder;
-use forecasting::forecast_code;
+use horizons::forecast_code;
 use models::ties_to_even;
 use models::trend_of;
 use state::Outcome;

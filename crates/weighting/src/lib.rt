@@ -5,8 +5,8 @@ mod sums;
 pub mod variances;
 
 use checks::check;
-use forecasting::MAX_HORIZON;
-use forecasting::horizon_ok;
+use horizons::MAX_HORIZON;
+use horizons::horizon_ok;
 use models::errors_are;
 use state::BAD_HORIZON;
 use state::OUT_OF_PLACE;

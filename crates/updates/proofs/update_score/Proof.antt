@@ -1,6 +1,6 @@
 -- `ets::updates::update_score` meets its contract.
 use mathlib.Core.Path.{_≡_, sym, _∙_}
-use mathlib.Core.Bool.{Bool, true, _&&_}
+use mathlib.Core.Bool.{_&&_}
 use mir.Facts.{toZ-ofZ}
 use Rattle.integers.proofs.Tests.{both}
 use Rattle.state.specs.Fixed.{isResidual}

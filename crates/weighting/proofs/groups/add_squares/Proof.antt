@@ -1,15 +1,14 @@
 -- The loop's invariant: P and the remainder of j − 1, and the groups for 1 to j − 1.
 use Prim.Native.Nat.{ℕ, suc, _+_, _-_, _*_, _%_, _≤_, _<_}
-use mathlib.Core.Path.{_≡_, refl, sym, ap, ap₂, _∙_}
-use mathlib.Core.List.{List, _++_}
+use mathlib.Core.Path.{_≡_, refl, ap, _∙_}
+use mathlib.Core.List.{_++_}
 use native.Mathlib.Nat.{mod-lt}
 use native.Mathlib.Omega.{arith}
-use lib.ListN.{length, drop, set, getD, length-set}
+use lib.ListN.{length, drop, getD, length-set}
 use borrow.Author.Needs.{needs}
-use Rattle.state.specs.Valid.{Valid}
 use Rattle.state.specs.declared.State.{State}
 use Rattle.weights.specs.Weights.{coefficient, squares}
-use Rattle.weights.specs.Groups.{groupCount, groupSum, firstGroups}
+use Rattle.weights.specs.Groups.{groupCount, firstGroups}
 use Rattle.weights.specs.Facts.{At}
 use Rattle.weights.proofs.Terms.{product-le, at-start, at-next, at-small, squares-next}
 use Rattle.weights.proofs.GroupLaws.{count-least, cell-most, cells-next, Cleared, cleared}

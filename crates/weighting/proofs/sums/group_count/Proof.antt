@@ -1,4 +1,3 @@
-use mathlib.Core.Path.{sym, _∙_}
 use borrow.Author.Needs.{needs}
 use Rattle.weighting.proofs.sums.group_count.Statement.{statement}
 use Rattle.weighting.proofs.sums.group_count.Tie as tie

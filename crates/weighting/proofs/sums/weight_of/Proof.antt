@@ -5,7 +5,7 @@ use native.Mathlib.Omega.{arith}
 use borrow.Author.Needs.{needs}
 use Rattle.state.specs.Valid.{Valid}
 use Rattle.state.specs.declared.State.{State}
-use Rattle.weights.specs.Weights.{coefficient, squares, weightOf}
+use Rattle.weights.specs.Weights.{squares, weightOf}
 use Rattle.weights.specs.Facts.{At}
 use Rattle.weights.proofs.Terms.{product-le, at-start, at-next, at-small, weight-next}
 use Rattle.weighting.proofs.sums.weight_of.Statement.{statement}
