@@ -1,10 +1,10 @@
 // The station's C calls on a lent slice that holds one snapshot: document 01, "Commands", and document 02, W-211.
-use saving::in_place::forecast;
-use saving::in_place::missing;
-use saving::in_place::step;
-use saving::in_place::switch_to_even;
+use in_place::forecast;
+use in_place::missing;
+use in_place::step;
+use in_place::switch_to_even;
 ghost use mathlib.Core.Path.{_≡_};
-ghost use Rattle.saving.specs.InPlace.{inPlaceStepCode, inPlaceStepBytes, inPlaceResidual, inPlaceMissingCode, inPlaceMissingBytes, inPlaceSwitchCode, inPlaceSwitchBytes, inPlaceForecastCode, inPlaceForecast};
+ghost use Rattle.in_place.specs.InPlace.{inPlaceStepCode, inPlaceStepBytes, inPlaceResidual, inPlaceMissingCode, inPlaceMissingBytes, inPlaceSwitchCode, inPlaceSwitchBytes, inPlaceForecastCode, inPlaceForecast};
 
 #[no_mangle]
 pub extern "C" fn forecaster_step(snapshot: &mut [u8], reading: i32, residual: &mut i64) -> u8

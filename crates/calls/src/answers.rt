@@ -109,7 +109,7 @@ fn play_switch_in_place() {
     let mut space = [0u8; 1024];
     let bytes = first_bytes(&mut space, next_size());
     io::read_full(STDIN_FILENO, bytes);
-    print_code(saving::in_place::switch_to_even(bytes));
+    print_code(in_place::switch_to_even(bytes));
     print_bytes(bytes);
 }
 

@@ -9,7 +9,7 @@ use Rattle.ets.specs.Steps.{step}
 use Rattle.forecasts.specs.Forecasts.{maxHorizon, forecast}
 use Rattle.layout.specs.Bytes.{AreBytes}
 use Rattle.snapshot.specs.Snapshots.{decoded}
-use Rattle.saving.specs.InPlace.{rewriteCode, inPlaceStepBytes, inPlaceForecastCode, inPlaceForecast}
+use Rattle.in_place.specs.InPlace.{rewriteCode, inPlaceStepBytes, inPlaceForecastCode, inPlaceForecast}
 use Rattle.traces.specs.Calls.{followed, Reading, Forecast, InPlaceReading, InPlaceForecast, result}
 use Rattle.traces.specs.Operations.{on-state, perform}
 use Rattle.traces.proofs.Lists.{slice-laws}

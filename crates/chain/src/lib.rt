@@ -11,7 +11,7 @@ ghost use Rattle.state.specs.Rejections.{answerCode, answerValue};
 ghost use Rattle.forecasts.specs.Forecasts.{forecast};
 ghost use Rattle.ets.specs.Steps.{step};
 ghost use Rattle.snapshot.specs.Snapshots.{decoded};
-ghost use Rattle.saving.specs.InPlace.{rewriteCode, inPlaceStepBytes, inPlaceResidual, inPlaceForecastCode, inPlaceForecast};
+ghost use Rattle.in_place.specs.InPlace.{rewriteCode, inPlaceStepBytes, inPlaceResidual, inPlaceForecastCode, inPlaceForecast};
 ghost use Rattle.traces.specs.Calls.{followed, Reading, InPlaceReading};
 ghost use Rattle.chain.specs.Chains.{ForecastWithin};
 

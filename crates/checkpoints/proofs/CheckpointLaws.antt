@@ -27,7 +27,8 @@ use Rattle.snapshot.proofs.Decoded.{accepted-passes}
 use Rattle.saving.specs.Encoding.{encoded}
 use Rattle.saving.specs.Saving.{saveCode, save, savedBytes}
 use Rattle.saving.proofs.ByteLaws.{bytes-drop, bytes-take}
-use Rattle.saving.proofs.RoundTrip.{length-encoded, read-back, decoded-typed}
+use Rattle.saving.proofs.Lengths.{length-encoded}
+use Rattle.round_trips.proofs.RoundTrip.{read-back, decoded-typed}
 use Rattle.checkpoints.specs.Checkpoints.{slots, slotSize, checkpointsSize, slotAt, slotIn, noCheckpoints, storeCode, store, storedBytes, isHeld, restoreCode, nothingKept, restore}
 use Rattle.checkpoints.specs.Promises.{StoredBack, StoresBack, Restored, NothingKept}
 use Rattle.checkpoints.proofs.SlotLaws.{put-at, same-slot, other-slot}

@@ -22,7 +22,7 @@ use Rattle.layout.proofs.AnswerLaws.{lengths}
 use Rattle.snapshot.proofs.OffsetLaws.{offsets}
 use Rattle.saving.specs.Encoding.{encoded}
 use Rattle.saving.specs.Saving.{bytesNeeded, save, saveCode}
-use Rattle.saving.proofs.RoundTrip.{length-encoded}
+use Rattle.saving.proofs.Lengths.{length-encoded}
 use Rattle.replies.specs.declared.Reply.the-variants as reply-of
 use Rattle.decoding.specs.declared.Command.{Command}
 use Rattle.decoding.specs.declared.Decoded.{Decoded}

@@ -29,10 +29,10 @@ use Rattle.snapshot.proofs.Accepting.{accepted, accepted-size, opener-size}
 use Rattle.snapshot.proofs.Decoded.{accepted-passes}
 use Rattle.snapshot.proofs.OldForms.{old-forms}
 use Rattle.saving.specs.Encoding.{encoded}
-use Rattle.saving.specs.Promises.{upgraded}
+use Rattle.round_trips.specs.Promises.{upgraded}
 use Rattle.saving.proofs.ByteLaws.{bytes-drop}
 use Rattle.decoding.specs.Decoding.{commandCode, operands, decode}
-use Rattle.saving.proofs.RoundTrip.{read-back, has-score, saved-back, upgraded-back, decoded-typed}
+use Rattle.round_trips.proofs.RoundTrip.{read-back, has-score, saved-back, upgraded-back, decoded-typed}
 
 -- ---- a group that is accepted, before whatever follows it
 pub record Again (u : List ℕ) (v : List ℕ) : Type 0 where

@@ -1,5 +1,6 @@
 -- Document 01, "Commands" and the refusal 12 of a snapshot (the paper's group): saving the one of a state.
-use Prim.Native.Nat.{ℕ}
+use Prim.Native.Nat.{ℕ, _+_}
+use mathlib.Core.Bool.{cond, _&&_}
 use mathlib.Core.List.{List}
 use lib.Dec.{leb}
 use lib.ListN.{length}
@@ -27,3 +28,12 @@ save s room = outcome (saveCode s room)
 
 unfoldable pub savedBytes : State → List ℕ → List ℕ
 savedBytes s buffer = accepting (saveCode s (length buffer)) (sets buffer modelAt (encoded s)) (λ (n : ℕ). buffer)
+
+-- bytes written from an offset of a slice on, where there is room for all of them; else it stays as it is
+unfoldable pub written : List ℕ → ℕ → List ℕ → List ℕ
+written d at bytes = cond (leb (at + length bytes) (length d)) (sets d at bytes) d
+
+-- the snapshot of a state written over a slice, by no more season values than a state has cells
+unfoldable pub snapshotWritten : State → List ℕ → List ℕ
+snapshotWritten s d =
+    cond (leb (s .period) 48 && leb (sizeOf (s .period)) (length d)) (sets d modelAt (encoded s)) d

@@ -1,7 +1,6 @@
-// Saving a state, and the calls on a lent slice that rewrite it: document 01, "Commands". A snapshot is the paper's group.
+// Writing the snapshot of a state, whole or one command of it: document 01, "Commands". A snapshot is the paper's group.
 mod bytes;
-pub mod in_place;
-pub mod promises;
+pub mod rewriting;
 mod writing;
 
 use checks::check;

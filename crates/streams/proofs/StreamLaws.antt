@@ -35,7 +35,7 @@ use Rattle.snapshot.specs.Snapshots.{openCode, openOffset, decoded, read}
 use Rattle.saving.specs.Encoding.{encoded}
 use Rattle.saving.specs.Saving.{save, saveCode, savedBytes}
 use Rattle.saving.proofs.ByteLaws.{bytes-drop}
-use Rattle.saving.proofs.RoundTrip.{decoded-typed}
+use Rattle.round_trips.proofs.RoundTrip.{decoded-typed}
 use Rattle.checkpoints.specs.Checkpoints.{noCheckpoints, storeCode, store, restoreCode, restore}
 use Rattle.checkpoints.proofs.CheckpointLaws.{restored-outcome}
 use Rattle.snapshot.proofs.Accepting.{accepted-size}

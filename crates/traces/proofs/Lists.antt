@@ -25,8 +25,8 @@ use Rattle.layout.specs.Layout.{scoredIn}
 use Rattle.snapshot.specs.Snapshots.{decoded}
 use Rattle.snapshot.specs.Slices.{inPlaceCode}
 use Rattle.saving.specs.Encoding.{encoded}
-use Rattle.saving.specs.InPlace.{roomCode, rewriteCode, rejection, bytesAfter, inPlaceStepCode, inPlaceStepBytes, inPlaceMissingCode, inPlaceMissingBytes, inPlaceSwitchCode, inPlaceSwitchBytes, inPlaceForecastCode, inPlaceForecast}
-use Rattle.saving.proofs.InPlaceLaws.{in-place-encoded, room-encoded, in-place-is-direct}
+use Rattle.in_place.specs.InPlace.{roomCode, rewriteCode, rejection, bytesAfter, inPlaceStepCode, inPlaceStepBytes, inPlaceMissingCode, inPlaceMissingBytes, inPlaceSwitchCode, inPlaceSwitchBytes, inPlaceForecastCode, inPlaceForecast}
+use Rattle.in_place.proofs.InPlaceLaws.{in-place-encoded, room-encoded, in-place-is-direct}
 use Rattle.traces.specs.Calls.{followed, Reading, Missing, Switch, Forecast, InPlaceReading, InPlaceMissing, InPlaceSwitch, InPlaceForecast, horizon, Result, result}
 use Rattle.traces.specs.Laws.{filled, Passing, CallLaws, InPlaceLaws, Holds, ReadingLaw, MissingLaw, SwitchLaw, ForecastLaw, SliceLaws}
 use Rattle.traces.proofs.Slices.{too-short}

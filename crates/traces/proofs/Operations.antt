@@ -17,7 +17,7 @@ use Rattle.snapshot.specs.Snapshots.{openCode, decoded, read}
 use Rattle.snapshot.specs.declared.Opened.{Opened}
 use Rattle.snapshot.proofs.Decoded.{accepted-passes}
 use Rattle.saving.specs.Encoding.{encoded}
-use Rattle.saving.proofs.RoundTrip.{decoded-typed}
+use Rattle.round_trips.proofs.RoundTrip.{decoded-typed}
 use Rattle.checkpoints.specs.Checkpoints.{slotAt, slotIn, noCheckpoints, storeCode, storedBytes, isHeld, restoreCode, nothingKept, restore}
 use Rattle.checkpoints.specs.Promises.{StoredBack}
 use Rattle.checkpoints.proofs.CheckpointLaws.{stored-is, stores-back, nothing-at-first}

@@ -23,7 +23,7 @@ use Rattle.ets.proofs.Kept.{reading-typed, reading-kept, missing-kept}
 use Rattle.snapshot.specs.Snapshots.{decoded}
 use Rattle.snapshot.specs.Slices.{inPlaceCode}
 use Rattle.saving.specs.Encoding.{encoded}
-use Rattle.saving.specs.InPlace.{roomCode, rewriteCode, inPlaceStepCode, inPlaceStepBytes, inPlaceMissingCode, inPlaceMissingBytes, inPlaceSwitchBytes, inPlaceForecastCode, inPlaceForecast}
+use Rattle.in_place.specs.InPlace.{roomCode, rewriteCode, inPlaceStepCode, inPlaceStepBytes, inPlaceMissingCode, inPlaceMissingBytes, inPlaceSwitchBytes, inPlaceForecastCode, inPlaceForecast}
 use Rattle.traces.specs.Calls.{Slice, sliceOf, stateIn, Call, Reading, Missing, Switch, Batch, Forecast, Forecasts, ReadingOn, MissingOn, BatchOn, ForecastOn, ForecastsOn, InPlaceReading, InPlaceMissing, InPlaceSwitch, InPlaceForecast, result}
 use Rattle.traces.specs.Scores.{squares}
 use Rattle.traces.proofs.Slices.{accepted-holds, untouched-holds, rewritten-holds}

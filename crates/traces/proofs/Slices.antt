@@ -14,7 +14,8 @@ use Rattle.snapshot.specs.Snapshots.{openOffset, decoded}
 use Rattle.snapshot.specs.Slices.{inPlaceCode}
 use Rattle.snapshot.proofs.Accepting.{accepted-size, one-snapshot, nothing-after}
 use Rattle.saving.specs.Encoding.{toBytes, modelBytes, levelBytes, scoreBytes, encoded}
-use Rattle.saving.proofs.RoundTrip.{read-back, length-encoded}
+use Rattle.saving.proofs.Lengths.{length-encoded}
+use Rattle.round_trips.proofs.RoundTrip.{read-back}
 use Rattle.traces.specs.Calls.{Slice, followed, cut, sliceOf, stateIn}
 
 -- the length of a snapshot is told by its season length, so that no shorter beginning of it is one

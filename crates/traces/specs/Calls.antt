@@ -23,7 +23,7 @@ use Rattle.forecasts.specs.Forecasts.{forecastTo, forecastsTo, forecastCellsTo}
 use Rattle.forecasts.specs.Calendars.{forecastOn, forecastsOn, forecastCellsOn}
 use Rattle.snapshot.specs.Snapshots.{decoded}
 use Rattle.saving.specs.Encoding.{encoded}
-use Rattle.saving.specs.InPlace.{inPlaceStepCode, inPlaceStepBytes, inPlaceMissingCode, inPlaceMissingBytes, inPlaceSwitchBytes, inPlaceForecastCode, inPlaceForecast}
+use Rattle.in_place.specs.InPlace.{inPlaceStepCode, inPlaceStepBytes, inPlaceMissingCode, inPlaceMissingBytes, inPlaceSwitchBytes, inPlaceForecastCode, inPlaceForecast}
 
 -- What a call in place is lent of the memory with the state's snapshot: all of it and the bytes that follow (any of which makes the call a rejected one), or its first
 -- `size` bytes alone (too few make it one).

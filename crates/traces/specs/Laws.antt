@@ -13,7 +13,7 @@ use Rattle.layout.specs.Layout.{scoredIn}
 use Rattle.snapshot.specs.Snapshots.{decoded}
 use Rattle.snapshot.specs.Slices.{inPlaceCode}
 use Rattle.saving.specs.Encoding.{encoded}
-use Rattle.saving.specs.InPlace.{rewriteCode, inPlaceStepCode, inPlaceStepBytes, inPlaceMissingCode, inPlaceMissingBytes, inPlaceSwitchCode, inPlaceSwitchBytes, inPlaceForecastCode, inPlaceForecast}
+use Rattle.in_place.specs.InPlace.{rewriteCode, inPlaceStepCode, inPlaceStepBytes, inPlaceMissingCode, inPlaceMissingBytes, inPlaceSwitchCode, inPlaceSwitchBytes, inPlaceForecastCode, inPlaceForecast}
 use Rattle.traces.specs.Calls.{followed, Call, Reading, Missing, Switch, Forecast, InPlaceReading, InPlaceMissing, InPlaceSwitch, InPlaceForecast, Event, observed, unobserved, untold, series, horizon, horizons, horizon-on, horizons-on, result, sliceOf}
 
 -- the cells that a call filled, or the forecast that it answered

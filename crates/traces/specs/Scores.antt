@@ -14,7 +14,7 @@ use Rattle.state.specs.declared.State.{State}
 use Rattle.ets.specs.Steps.{stepCode, squareBy}
 use Rattle.ets.specs.Batches.{takeCodeBy, afterTakeBy, batchCode}
 use Rattle.ets.specs.Calendars.{stepCodeOn, batchCodeOn}
-use Rattle.saving.specs.InPlace.{inPlaceStepCode}
+use Rattle.in_place.specs.InPlace.{inPlaceStepCode}
 use Rattle.traces.specs.Calls.{Call, Reading, Missing, Switch, Batch, Forecast, Forecasts, ReadingOn, MissingOn, BatchOn, ForecastOn, ForecastsOn, InPlaceReading, InPlaceMissing, InPlaceSwitch, InPlaceForecast, sliceOf, result, after}
 use Rattle.traces.specs.Laws.{Passing}
 

@@ -1,4 +1,4 @@
--- `c_api::forecaster_step` meets its contract: it is the call of crate snapshot.
+-- `c_api::forecaster_step` meets its contract: it is the call of crate in_place.
 use mir.Facts.{toZ-ofZ}
 use borrow.Author.Needs.{needs}
 use Rattle.c_api.proofs.forecaster_step.Statement.{statement}

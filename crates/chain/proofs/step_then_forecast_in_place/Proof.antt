@@ -4,7 +4,7 @@ use Prim.Native.Nat.{ℕ}
 use lib.IntN.{ℤ}
 use Rattle.layout.specs.Bytes.{AreBytes}
 use Rattle.snapshot.specs.Snapshots.{decoded}
-use Rattle.saving.specs.InPlace.{rewriteCode, inPlaceStepBytes, inPlaceForecastCode, inPlaceForecast}
+use Rattle.in_place.specs.InPlace.{rewriteCode, inPlaceStepBytes, inPlaceForecastCode, inPlaceForecast}
 use Rattle.traces.specs.Calls.{followed, InPlaceReading}
 use Rattle.chain.specs.Chains.{ForecastWithin}
 use Rattle.chain.proofs.Chains.{in-place}

@@ -12,7 +12,7 @@ use mir.ValLaws.{toZ-ofZ}
 use Rattle.layout.specs.Layout.{seasonAt}
 use Rattle.saving.specs.Encoding.{seasonBytes, seasonsBytes}
 use Rattle.saving.proofs.ByteLaws.{follow}
-use Rattle.saving.proofs.RoundTrip.{length-seasons}
+use Rattle.saving.proofs.Lengths.{length-seasons}
 use Rattle.saving.proofs.writing.write_seasons.Statement.{statement}
 use Rattle.saving.proofs.writing.write_seasons.Tie as tie
 

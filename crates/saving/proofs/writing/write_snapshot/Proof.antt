@@ -8,7 +8,7 @@ use Rattle.integers.proofs.Difference.{back}
 use Rattle.layout.specs.Layout.{modelAt, levelAt, scoreAt, seasonAt}
 use Rattle.saving.specs.Encoding.{modelBytes, levelBytes, scoreBytes, seasonsBytes, positionBytes, encoded}
 use Rattle.saving.proofs.ByteLaws.{follow}
-use Rattle.saving.proofs.RoundTrip.{length-model, length-level, length-score, length-seasons}
+use Rattle.saving.proofs.Lengths.{length-model, length-level, length-score, length-seasons}
 use borrow.Author.Needs.{needs}
 use Rattle.saving.proofs.writing.write_snapshot.Statement.{statement}
 use Rattle.saving.proofs.writing.write_snapshot.Tie as tie

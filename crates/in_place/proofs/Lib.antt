@@ -1,0 +1,4 @@
+pub mod InPlaceLaws
+pub mod InPlaceSteps
+pub mod InPlaceSwitch
+pub mod Patches
