@@ -1,15 +1,15 @@
 // A stream of commands played to standard output, one write for each line.
 use checkpoints::CHECKPOINTS_SIZE;
-use streams::MAX_LINE;
-use streams::admit;
-use streams::is_last;
 use commands::start;
-use streams::write_next;
 use libc::STDOUT_FILENO;
 use lines::Line;
 use lines::write_line;
 use replies::Reply;
+use replies::is_last;
 use state::Outcome;
+use streams::MAX_LINE;
+use streams::admit;
+use streams::write_next;
 ghost use mathlib.Core.Path.{_≡_};
 ghost use Rattle.checkpoints.specs.Checkpoints.{noCheckpoints};
 ghost use Rattle.commands.specs.Commands.{start};

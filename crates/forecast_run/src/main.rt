@@ -1,6 +1,6 @@
 // forecast-run: reads a stream of commands from standard input and prints the line of each.
-use streams::INPUT_LIMIT;
 use libc::STDIN_FILENO;
+use streams::INPUT_LIMIT;
 
 fn main() {
     // One byte more than the longest stream, so that a longer input is seen to be one.

@@ -41,7 +41,8 @@ use Rattle.decoding.specs.declared.Decoded.{Decoded}
 use Rattle.decoding.proofs.DecodingLaws.{whole-command}
 use Rattle.replies.specs.declared.Reply.{Reply}
 use Rattle.replies.specs.declared.Reply.the-variants as reply-of
-use Rattle.commands.specs.Commands.{accepted, rejected, byOutcome, byAnswer, byVariance, byRelative, finish, restOffset, openSnapshot, takeReading, takeMissing, switchState, giveForecast, giveVariance, giveRelativeVariance, saveState, storeState, restoreState, act, nextCommand, perform, isLast}
+use Rattle.replies.specs.Replies.{isLast}
+use Rattle.commands.specs.Commands.{accepted, rejected, byOutcome, byAnswer, byVariance, byRelative, finish, restOffset, openSnapshot, takeReading, takeMissing, switchState, giveForecast, giveVariance, giveRelativeVariance, saveState, storeState, restoreState, act, nextCommand, perform}
 use Rattle.commands.specs.declared.Session.{Session}
 use Rattle.commands.specs.declared.Performed.{Performed}
 use Rattle.rollbacks.proofs.OwnBytes.{Again, again, part-same, decode-same}

@@ -38,7 +38,8 @@ use Rattle.decoding.specs.declared.Decoded.{Decoded}
 use Rattle.replies.specs.declared.Reply.{Reply}
 use Rattle.replies.specs.declared.Reply.the-variants as reply-of
 use Rattle.lines.specs.Lines.{lineOf}
-use Rattle.commands.specs.Commands.{accepted, rejected, byOutcome, byAnswer, byVariance, byRelative, finish, openSnapshot, takeReading, takeMissing, switchState, giveForecast, giveVariance, giveRelativeVariance, saveState, storeState, restoreState, act, checkpointed, nextCommand, perform, performCheckpoints, isLast}
+use Rattle.replies.specs.Replies.{isLast}
+use Rattle.commands.specs.Commands.{accepted, rejected, byOutcome, byAnswer, byVariance, byRelative, finish, openSnapshot, takeReading, takeMissing, switchState, giveForecast, giveVariance, giveRelativeVariance, saveState, storeState, restoreState, act, checkpointed, nextCommand, perform, performCheckpoints}
 use Rattle.streams.specs.Stream.{snapshotRoom, next, answersIn, answersFrom, lineAfter}
 use Rattle.commands.specs.declared.Session.{Session}
 use Rattle.commands.specs.declared.Performed.{Performed}
