@@ -13,7 +13,7 @@ use Rattle.calendars.specs.declared.Walked.{Walked}
 use Rattle.calendars.proofs.ListLaws.{rises, behind-start}
 use Rattle.calendars.proofs.WalkLaws.{walked-is}
 use Rattle.integers.proofs.Tests.{both, cond-elim}
-use Rattle.state.specs.Rejections.{_then_, bad-calendar}
+use Rattle.state.specs.Rejections.{_then_, bad-calendar, byAnswer, byOutcome}
 use Rattle.state.specs.States.{indexOk, check}
 use Rattle.state.specs.declared.State.{State}
 use Rattle.state.specs.declared.Answer.the-variants as answer-of
@@ -25,7 +25,6 @@ use Rattle.ets.specs.Calendars.{calendarCode, stepCodeOn, missingCodeOn, stepOn
 use Rattle.ets.specs.declared.Stepped.{Stepped}
 use Rattle.ets.specs.declared.Missed.{Missed}
 use Rattle.ets.proofs.CalendarLaws.{followed, placed, turned, placed-check, skips, repeats}
-use Rattle.clock.specs.Cases.{byAnswer, byOutcome}
 
 -- the turn of a call's first step, by the walk from the start of both lists
 pub first-turn : (k : Calendar) (m p n : ℕ) (at : Cursors) (w : Walked) → calendarCode m k ≡ 0 → at ≡ record { skipped = 0; repeated = 0 } → w ≡ walked k at m p n → IsTurn k m p n w
@@ -66,29 +65,29 @@ module _ (k : Calendar) (s : State) where
     unfolding missingCodeOn missingCode advanced dampedTrend
     missing-code = rw (z, same)
 
-    pub step-followed : (y : ℤ) → stepOn k s y ≡ record { state = placed (step t y .state) (byAnswer (step t y .residual) (turn k s .next) (s .index)); residual = step t y .residual }
+    pub step-followed : (y : ℤ) → stepOn k s y ≡ record { state = placed (step t y .state) (byAnswer (step t y .residual) (λ _. turn k s .next) (λ _. s .index)); residual = step t y .residual }
     unfolding stepOn step dampedTrend seasonBy seasonalBy
     step-followed y = rw (step-code y) (go (stepCode t y) (eqb (stepCode t y) 0))
       where
         go : (n : ℕ) (b : Bool) → _≡_ {A = Stepped} (record { state = cond b (afterReadingBy k s y) s; residual = cond b (answer-of.Accepted (residualBy k s y)) (answer-of.Rejected n) })
-            (record { state = placed (cond b (afterReading t y) t) (byAnswer (cond b (answer-of.Accepted (residualOf t y)) (answer-of.Rejected n)) (turn k s .next) (s .index)); residual = cond b (answer-of.Accepted (residualOf t y)) (answer-of.Rejected n) })
+            (record { state = placed (cond b (afterReading t y) t) (byAnswer (cond b (answer-of.Accepted (residualOf t y)) (answer-of.Rejected n)) (λ _. turn k s .next) (λ _. s .index)); residual = cond b (answer-of.Accepted (residualOf t y)) (answer-of.Rejected n) })
         go n true = refl
         go n false = refl
 
-    pub missing-followed : missingOn k s ≡ record { state = placed (missing t .state) (byOutcome (missing t .outcome) (turn k s .next) (s .index)); outcome = missing t .outcome }
+    pub missing-followed : missingOn k s ≡ record { state = placed (missing t .state) (byOutcome (missing t .outcome) (turn k s .next) (λ _. s .index)); outcome = missing t .outcome }
     unfolding missingOn missing advanced dampedTrend
     missing-followed = rw missing-code (go (missingCode t) (eqb (missingCode t) 0))
       where
         go : (n : ℕ) (b : Bool) → _≡_ {A = Missed} (record { state = cond b (afterMissingBy k s) s; outcome = cond b outcome-of.Accepted (outcome-of.Rejected n) })
-            (record { state = placed (cond b (afterMissing t) t) (byOutcome (cond b outcome-of.Accepted (outcome-of.Rejected n)) (turn k s .next) (s .index)); outcome = cond b outcome-of.Accepted (outcome-of.Rejected n) })
+            (record { state = placed (cond b (afterMissing t) t) (byOutcome (cond b outcome-of.Accepted (outcome-of.Rejected n)) (turn k s .next) (λ _. s .index)); outcome = cond b outcome-of.Accepted (outcome-of.Rejected n) })
         go n true = refl
         go n false = refl
 
     -- as the code builds them
-    pub step-built : (y : ℤ) (u q p : ℕ) (r : Stepped) → u ≡ turn k s .used → q ≡ turn k s .next → r ≡ step (placed s u) y → p ≡ byAnswer (r .residual) q (s .index) → record { state = placed (r .state) p; residual = r .residual } ≡ stepOn k s y
+    pub step-built : (y : ℤ) (u q p : ℕ) (r : Stepped) → u ≡ turn k s .used → q ≡ turn k s .next → r ≡ step (placed s u) y → p ≡ byAnswer (r .residual) (λ _. q) (λ _. s .index) → record { state = placed (r .state) p; residual = r .residual } ≡ stepOn k s y
     step-built y u q p r eu eq er ep = rw (ep, er, eq, eu) (sym (step-followed y))
 
-    pub missing-built : (u q p : ℕ) (r : Missed) → u ≡ turn k s .used → q ≡ turn k s .next → r ≡ missing (placed s u) → p ≡ byOutcome (r .outcome) q (s .index) → record { state = placed (r .state) p; outcome = r .outcome } ≡ missingOn k s
+    pub missing-built : (u q p : ℕ) (r : Missed) → u ≡ turn k s .used → q ≡ turn k s .next → r ≡ missing (placed s u) → p ≡ byOutcome (r .outcome) q (λ _. s .index) → record { state = placed (r .state) p; outcome = r .outcome } ≡ missingOn k s
     missing-built u q p r eu eq er ep = rw (ep, er, eq, eu) (sym missing-followed)
 
   -- ---- with others

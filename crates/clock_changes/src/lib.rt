@@ -20,10 +20,10 @@ pub use windows::window_maximum;
 ghost use mathlib.Core.Path.{_≡_};
 ghost use Rattle.calendars.specs.Calendars.{calendarOf};
 ghost use Rattle.ets.specs.Calendars.{stepOn, missingOn};
-ghost use Rattle.clock.specs.Cases.{byAnswer, byOutcome};
+ghost use Rattle.state.specs.Rejections.{byAnswer, byOutcome};
 
 fn by_answer(done: Answer, accepted: u8, rejected: u8) -> u8
-    ensures { λ r. ⌜ r ≡ byAnswer done accepted rejected ⌝ }
+    ensures { λ r. ⌜ r ≡ byAnswer done (λ _. accepted) (λ _. rejected) ⌝ }
 {
     match done {
         Answer::Accepted(_) => accepted,
@@ -32,7 +32,7 @@ fn by_answer(done: Answer, accepted: u8, rejected: u8) -> u8
 }
 
 fn by_outcome(done: Outcome, accepted: u8, rejected: u8) -> u8
-    ensures { λ r. ⌜ r ≡ byOutcome done accepted rejected ⌝ }
+    ensures { λ r. ⌜ r ≡ byOutcome done accepted (λ _. rejected) ⌝ }
 {
     match done {
         Outcome::Accepted => accepted,

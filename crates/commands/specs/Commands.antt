@@ -1,30 +1,17 @@
 -- Document 01, "Commands": what a command of a stream answers, and what stands after it.
 use Prim.Native.Nat.{ℕ, _+_}
-use mathlib.Core.Bool.{Bool, true, false, cond}
+use mathlib.Core.Bool.{true, false, cond}
 use mathlib.Core.List.{List}
-use lib.Dec.{eqb}
 use lib.IntN.{ℤ}
 use lib.ListN.{length, drop}
-use lib.Ieee.{Float, binary64, toBits}
+use Rattle.state.specs.Rejections.{byOutcome}
 use Rattle.state.specs.States.{noState}
-use Rattle.state.specs.Switching.{switchToEven}
 use Rattle.state.specs.declared.State.{State}
-use Rattle.state.specs.declared.Outcome.{Outcome}
-use Rattle.state.specs.declared.Outcome.the-variants as outcome-of
-use Rattle.state.specs.declared.Answer.{Answer}
-use Rattle.state.specs.declared.Answer.the-variants as answer-of
-use Rattle.ets.specs.Steps.{step, missing}
-use Rattle.forecasts.specs.Forecasts.{maxHorizon, forecast}
-use Rattle.weights.specs.Weights.{variance}
-use Rattle.weights.specs.declared.Variance.{Variance}
-use Rattle.weights.specs.declared.Variance.the-variants as variance-of
-use Rattle.snapshot.specs.Snapshots.{openCode, openOffset, read}
-use Rattle.saving.specs.Encoding.{encoded}
-use Rattle.saving.specs.Saving.{save, savedBytes}
-use Rattle.checkpoints.specs.Checkpoints.{store, storedBytes, restore}
-use Rattle.relative_errors.specs.Relative.{relativeVariance}
-use Rattle.relative_errors.specs.declared.RelativeVariance.{RelativeVariance}
-use Rattle.relative_errors.specs.declared.RelativeVariance.the-variants as relative-of
+use Rattle.snapshot.specs.Snapshots.{openOffset}
+use Rattle.saving.specs.Saving.{savedBytes}
+use Rattle.checkpoints.specs.Checkpoints.{storedBytes}
+use Rattle.actions.specs.Actions as action-of
+use Rattle.actions.specs.declared.Action.{Action}
 use Rattle.decoding.specs.Decoding.{decode}
 use Rattle.decoding.specs.declared.Decoded.{Decoded}
 use Rattle.decoding.specs.declared.Command.{Command}
@@ -49,22 +36,16 @@ rejected code offset x = stopped (reply-of.Rejected code offset) x
 abbrev pub accepted : Reply → ℕ → State → Performed
 accepted r next s = record { reply = r; session = record { at = next; active = true; state = s } }
 
--- by what a call answered
-abbrev pub byOutcome : Outcome → Performed → (ℕ → Performed) → Performed
-byOutcome outcome-of.Accepted a r = a
-byOutcome (outcome-of.Rejected code) a r = r code
+-- an action on the state, with the offset after its command, or with that of what is rejected
+abbrev pub settled : Session → ℕ → ℕ → Action → Performed
+settled x next offset a = byOutcome (a .outcome) (accepted (a .reply) next (a .state)) (λ (code : ℕ). rejected code offset x)
 
-abbrev pub byAnswer : Answer → (ℤ → Performed) → (ℕ → Performed) → Performed
-byAnswer (answer-of.Accepted v) a r = a v
-byAnswer (answer-of.Rejected code) a r = r code
+-- what is handed on of a command with so many bytes before it and the next one
+abbrev pub onward : ℕ → Reply → State → Performed
+onward next r t = accepted r next t
 
-abbrev pub byVariance : Variance → (ℕ → ℕ → Performed) → (ℕ → Performed) → Performed
-byVariance (variance-of.Accepted high low) a r = a high low
-byVariance (variance-of.Rejected code) a r = r code
-
-abbrev pub byRelative : RelativeVariance → (Float → Performed) → (ℕ → Performed) → Performed
-byRelative (relative-of.Accepted v) a r = a v
-byRelative (relative-of.Rejected code) a r = r code
+abbrev pub refused : Session → ℕ → Performed
+refused x code = rejected code (x .at) x
 
 -- after the last command: the count, 0 if no state is open
 unfoldable pub finish : Session → Performed
@@ -77,60 +58,43 @@ restOffset s at = at + openOffset (drop at s)
 -- 10 or 18: a new group replaces the state only when all of it is accepted
 unfoldable pub openSnapshot : List ℕ → Session → Performed
 openSnapshot s x =
-    let t = drop (x .at) s in
-    let state = read t .state in
-    cond (eqb (openCode t) 0)
-    (accepted (reply-of.Opened (state .model) (state .period)) (restOffset s (x .at)) state)
-    (rejected (openCode t) (restOffset s (x .at)) x)
+    action-of.openSnapshot (drop (x .at) s) (onward (restOffset s (x .at))) (λ (code : ℕ). rejected code (restOffset s (x .at)) x)
 
 -- 20
 unfoldable pub takeReading : Session → ℕ → ℤ → Performed
-takeReading x next y =
-    let t = step (x .state) y in
-    byAnswer (t .residual) (λ (e : ℤ). accepted (reply-of.Residual e) next (t .state)) (λ (code : ℕ). rejected code (x .at) x)
+takeReading x next y = action-of.takeReading (x .state) y (onward next) (refused x)
 
 -- 21
 unfoldable pub takeMissing : Session → ℕ → Performed
-takeMissing x next =
-    let t = missing (x .state) in
-    byOutcome (t .outcome) (accepted reply-of.Missing next (t .state)) (λ (code : ℕ). rejected code (x .at) x)
+takeMissing x next = action-of.takeMissing (x .state) (onward next) (refused x)
 
 -- 14 (document 02, W-211): the answer has no line
 unfoldable pub switchState : Session → ℕ → Performed
-switchState x next =
-    let t = switchToEven (x .state) in
-    byOutcome (t .outcome) (accepted reply-of.Silent next (t .state)) (λ (code : ℕ). rejected code (x .at) x)
+switchState x next = action-of.switchState (x .state) (onward next) (refused x)
 
 -- 30
 unfoldable pub giveForecast : Session → ℕ → ℕ → Performed
-giveForecast x next h =
-    byAnswer (forecast (x .state) h) (λ (v : ℤ). accepted (reply-of.Forecast h v) next (x .state)) (λ (code : ℕ). rejected code (x .at) x)
+giveForecast x next h = action-of.giveForecast (x .state) h (onward next) (refused x)
 
 -- 31
 unfoldable pub giveVariance : Session → ℕ → ℕ → ℕ → Performed
-giveVariance x next h sigma2 =
-    byVariance (variance (x .state) h sigma2) (λ (high low : ℕ). accepted (reply-of.Variance h high low) next (x .state)) (λ (code : ℕ). rejected code (x .at) x)
+giveVariance x next h sigma2 = action-of.giveVariance (x .state) h sigma2 (onward next) (refused x)
 
 -- 32 (document 02, W-205): the answer's 64 bits; there is room for every θ
 unfoldable pub giveRelativeVariance : Session → ℕ → ℕ → ℕ → Performed
-giveRelativeVariance x next h sigma2 =
-    byRelative (relativeVariance (x .state) h sigma2 maxHorizon) (λ (v : Float). accepted (reply-of.RelativeVariance h (toBits binary64 v)) next (x .state)) (λ (code : ℕ). rejected code (x .at) x)
+giveRelativeVariance x next h sigma2 = action-of.giveRelativeVariance (x .state) h sigma2 (onward next) (refused x)
 
 -- 40: saving writes the group of the state into a buffer of so much room
 unfoldable pub saveState : Session → ℕ → ℕ → Performed
-saveState x next room =
-    byOutcome (save (x .state) room) (accepted (reply-of.Saved (length (encoded (x .state)))) next (x .state)) (λ (code : ℕ). rejected code (x .at) x)
+saveState x next room = action-of.saveState (x .state) room (onward next) (refused x)
 
 -- 50 (document 02, W-209): the state is kept under a name, in checkpoints of so much room, and stands as it stood
 unfoldable pub storeState : Session → ℕ → ℕ → ℕ → Performed
-storeState x next slot room =
-    byOutcome (store (x .state) slot room) (accepted reply-of.Silent next (x .state)) (λ (code : ℕ). rejected code (x .at) x)
+storeState x next slot room = action-of.storeState (x .state) slot room (onward next) (refused x)
 
 -- 51: what a name holds in the checkpoints stands again
 unfoldable pub restoreState : Session → ℕ → ℕ → List ℕ → Performed
-restoreState x next slot checkpoints =
-    let t = restore slot checkpoints in
-    byOutcome (t .outcome) (accepted reply-of.Silent next (t .state)) (λ (code : ℕ). rejected code (x .at) x)
+restoreState x next slot checkpoints = action-of.restoreState slot checkpoints (onward next) (refused x)
 
 -- each command, with the offset after it, the checkpoints, and the room of the buffer that a save writes into
 abbrev pub act : List ℕ → Session → List ℕ → ℕ → ℕ → Command → Performed
@@ -192,16 +156,3 @@ performBytes s x buffer = buffered x buffer (nextCommand s x .command)
 
 unfoldable pub performCheckpoints : List ℕ → Session → List ℕ → List ℕ
 performCheckpoints s x checkpoints = checkpointed x checkpoints (nextCommand s x .command)
-
--- X and N are a stream's last answers
-abbrev pub isLast : Reply → Bool
-isLast (reply-of.Opened model m) = false
-isLast (reply-of.Residual e) = false
-isLast reply-of.Missing = false
-isLast (reply-of.Forecast h v) = false
-isLast (reply-of.Variance h high low) = false
-isLast (reply-of.Saved n) = false
-isLast (reply-of.Rejected code offset) = true
-isLast (reply-of.Ended count) = true
-isLast reply-of.Silent = false
-isLast (reply-of.RelativeVariance h bits) = false

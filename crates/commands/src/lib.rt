@@ -1,20 +1,21 @@
 // A stream of commands, one at a time: document 01, "Commands" and "The program's lines".
 mod performing;
 
+use actions::copies::restore_state;
+use actions::copies::save_state;
+use actions::copies::store_state;
+use actions::looks::give_forecast;
+use actions::looks::give_relative_variance;
+use actions::looks::give_variance;
+use actions::readings::switch_state;
+use actions::readings::take_missing;
+use actions::readings::take_reading;
+use actions::reject;
 use decoding::Command;
 use decoding::decode;
 use performing::finish;
-use performing::give_forecast;
-use performing::give_relative_variance;
-use performing::give_variance;
-use performing::open_snapshot;
-use performing::reject;
-use performing::restore_state;
-use performing::save_state;
-use performing::store_state;
-use performing::switch_state;
-use performing::take_missing;
-use performing::take_reading;
+use performing::open;
+use performing::settle;
 use replies::Reply;
 use state::State;
 use state::no_state;
@@ -62,21 +63,22 @@ pub fn perform(
 {
     let found = decode(stream, session.at, session.active, session.state.model);
     let command = found.command;
-    let next = found.next;
-    match command {
-        Command::End => finish(session),
-        Command::Open => open_snapshot(stream, session),
-        Command::Reading(y) => take_reading(session, next, y),
-        Command::Missing => take_missing(session, next),
-        Command::Forecast(horizon) => give_forecast(session, next, horizon),
-        Command::Variance { horizon, sigma2 } => give_variance(session, next, horizon, sigma2),
-        Command::Save => save_state(session, next, buffer),
-        Command::Rejected(code) => reject(code, session.at, session),
-        Command::SwitchToEven => switch_state(session, next),
+    let state = session.state;
+    let action = match command {
+        Command::End => return finish(session),
+        Command::Open => return open(stream, session),
+        Command::Reading(y) => take_reading(state, y),
+        Command::Missing => take_missing(state),
+        Command::Forecast(horizon) => give_forecast(state, horizon),
+        Command::Variance { horizon, sigma2 } => give_variance(state, horizon, sigma2),
+        Command::Save => save_state(state, buffer),
+        Command::Rejected(code) => reject(state, code),
+        Command::SwitchToEven => switch_state(state),
         Command::RelativeVariance { horizon, sigma2 } => {
-            give_relative_variance(session, next, horizon, sigma2)
+            give_relative_variance(state, horizon, sigma2)
         }
-        Command::Store(slot) => store_state(session, next, slot, checkpoints),
-        Command::Restore(slot) => restore_state(session, next, slot, checkpoints),
-    }
+        Command::Store(slot) => store_state(state, slot, checkpoints),
+        Command::Restore(slot) => restore_state(state, slot, checkpoints),
+    };
+    settle(session, found.next, session.at, action)
 }

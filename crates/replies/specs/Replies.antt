@@ -1,5 +1,6 @@
 -- Document 01, "The program's lines": the letter and the numbers of each answer.
 use Prim.Native.Nat.{ℕ}
+use mathlib.Core.Bool.{Bool, true, false}
 use Rattle.replies.specs.declared.Reply.{Reply}
 use Rattle.replies.specs.declared.Reply.the-variants as reply-of
 use Rattle.replies.specs.declared.Number.{Number}
@@ -54,3 +55,16 @@ fieldsOf (reply-of.Rejected code offset) = fields letterX (Unsigned code) (Unsig
 fieldsOf (reply-of.Ended count) = fields letterN (Unsigned count) Nothing Nothing
 fieldsOf reply-of.Silent = fields noLetter Nothing Nothing Nothing
 fieldsOf (reply-of.RelativeVariance h bits) = fields letterW (Unsigned h) (Unsigned bits) Nothing
+
+-- X and N are a stream's last answers
+abbrev pub isLast : Reply → Bool
+isLast (reply-of.Opened model m) = false
+isLast (reply-of.Residual e) = false
+isLast reply-of.Missing = false
+isLast (reply-of.Forecast h v) = false
+isLast (reply-of.Variance h high low) = false
+isLast (reply-of.Saved n) = false
+isLast (reply-of.Rejected code offset) = true
+isLast (reply-of.Ended count) = true
+isLast reply-of.Silent = false
+isLast (reply-of.RelativeVariance h bits) = false

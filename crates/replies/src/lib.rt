@@ -1,6 +1,6 @@
 // The answers to a stream's commands, each as a letter and up to three numbers or without a line: document 01, "The program's lines".
 ghost use mathlib.Core.Path.{_≡_};
-ghost use Rattle.replies.specs.Replies.{fieldsOf};
+ghost use Rattle.replies.specs.Replies.{fieldsOf, isLast};
 
 // The answer to a command, by the letter of its line.
 pub enum Reply {
@@ -92,5 +92,36 @@ pub fn fields_of(r: Reply) -> Fields
             horizon as u64,
             Number::Unsigned(bits),
         ),
+    }
+}
+
+// X and N are a stream's last answers.
+pub fn is_last(reply: Reply) -> bool
+    ensures { λ r. ⌜ r ≡ isLast reply ⌝ }
+{
+    match reply {
+        Reply::Rejected { code: _, offset: _ } => true,
+        Reply::Ended(_) => true,
+        Reply::Opened {
+            model: _,
+            period: _,
+        } => false,
+        Reply::Residual(_) => false,
+        Reply::Missing => false,
+        Reply::Forecast {
+            horizon: _,
+            value: _,
+        } => false,
+        Reply::Variance {
+            horizon: _,
+            high: _,
+            low: _,
+        } => false,
+        Reply::Saved(_) => false,
+        Reply::Silent => false,
+        Reply::RelativeVariance {
+            horizon: _,
+            bits: _,
+        } => false,
     }
 }

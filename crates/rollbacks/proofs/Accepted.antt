@@ -11,6 +11,7 @@ use lib.Ieee.{Float, binary64, toBits}
 use lib.ListN.{length, take, drop, getD, take-append-drop}
 use lib.Seq.{getD-drop}
 use native.Mathlib.Nat.{add-zero}
+use Rattle.state.specs.Rejections.{byOutcome, byAnswer}
 use Rattle.state.specs.declared.State.{State}
 use Rattle.state.specs.Switching.{switchToEven}
 use Rattle.state.specs.declared.Outcome.{Outcome}
@@ -41,7 +42,9 @@ use Rattle.decoding.specs.declared.Decoded.{Decoded}
 use Rattle.decoding.proofs.DecodingLaws.{whole-command}
 use Rattle.replies.specs.declared.Reply.{Reply}
 use Rattle.replies.specs.declared.Reply.the-variants as reply-of
-use Rattle.commands.specs.Commands.{accepted, rejected, byOutcome, byAnswer, byVariance, byRelative, finish, restOffset, openSnapshot, takeReading, takeMissing, switchState, giveForecast, giveVariance, giveRelativeVariance, saveState, storeState, restoreState, act, nextCommand, perform, isLast}
+use Rattle.replies.specs.Replies.{isLast}
+use Rattle.actions.specs.Actions.{byVariance, byRelative}
+use Rattle.commands.specs.Commands.{accepted, rejected, finish, restOffset, openSnapshot, takeReading, takeMissing, switchState, giveForecast, giveVariance, giveRelativeVariance, saveState, storeState, restoreState, act, nextCommand, perform}
 use Rattle.commands.specs.declared.Session.{Session}
 use Rattle.commands.specs.declared.Performed.{Performed}
 use Rattle.rollbacks.proofs.OwnBytes.{Again, again, part-same, decode-same}

@@ -13,7 +13,8 @@ use Rattle.layout.specs.Bytes.{AreBytes}
 use Rattle.decoding.specs.declared.Command.{Command}
 use Rattle.decoding.specs.declared.Decoded.{Decoded}
 use Rattle.replies.specs.declared.Reply.the-variants as reply-of
-use Rattle.commands.specs.Commands.{nextCommand, performCheckpoints, isLast}
+use Rattle.replies.specs.Replies.{isLast}
+use Rattle.commands.specs.Commands.{nextCommand, performCheckpoints}
 use Rattle.streams.specs.Stream.{snapshotRoom, answersFrom}
 use Rattle.commands.specs.declared.Session.{Session}
 use Rattle.commands.specs.declared.Performed.{Performed}

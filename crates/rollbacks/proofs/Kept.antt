@@ -22,7 +22,8 @@ use Rattle.decoding.specs.declared.Command.the-variants as command-of
 use Rattle.decoding.specs.declared.Decoded.{Decoded}
 use Rattle.decoding.proofs.DecodingLaws.{whole-command}
 use Rattle.replies.specs.declared.Reply.the-variants as reply-of
-use Rattle.commands.specs.Commands.{accepted, rejected, storeState, restoreState, checkpointed, nextCommand, perform, performCheckpoints, isLast}
+use Rattle.replies.specs.Replies.{isLast}
+use Rattle.commands.specs.Commands.{accepted, rejected, storeState, restoreState, checkpointed, nextCommand, perform, performCheckpoints}
 use Rattle.streams.specs.Stream.{snapshotRoom, next}
 use Rattle.streams.specs.Promises.{Sound, Holding}
 use Rattle.commands.specs.declared.Session.{Session}

@@ -12,6 +12,7 @@ use lib.IntN.{ℤ}
 use lib.ListN.{length, length-drop, drop, getD}
 use lib.Ieee.{Float, binary64, toBits}
 use lib.Seq.{getD-drop, drop-drop}
+use Rattle.state.specs.Rejections.{byOutcome, byAnswer}
 use Rattle.state.specs.Switching.{switchToEven}
 use Rattle.state.specs.declared.State.{State}
 use Rattle.state.specs.declared.Outcome.{Outcome}
@@ -38,7 +39,9 @@ use Rattle.decoding.specs.declared.Decoded.{Decoded}
 use Rattle.replies.specs.declared.Reply.{Reply}
 use Rattle.replies.specs.declared.Reply.the-variants as reply-of
 use Rattle.lines.specs.Lines.{lineOf}
-use Rattle.commands.specs.Commands.{accepted, rejected, byOutcome, byAnswer, byVariance, byRelative, finish, openSnapshot, takeReading, takeMissing, switchState, giveForecast, giveVariance, giveRelativeVariance, saveState, storeState, restoreState, act, checkpointed, nextCommand, perform, performCheckpoints, isLast}
+use Rattle.replies.specs.Replies.{isLast}
+use Rattle.actions.specs.Actions.{byVariance, byRelative}
+use Rattle.commands.specs.Commands.{accepted, rejected, finish, openSnapshot, takeReading, takeMissing, switchState, giveForecast, giveVariance, giveRelativeVariance, saveState, storeState, restoreState, act, checkpointed, nextCommand, perform, performCheckpoints}
 use Rattle.streams.specs.Stream.{snapshotRoom, next, answersIn, answersFrom, lineAfter}
 use Rattle.commands.specs.declared.Session.{Session}
 use Rattle.commands.specs.declared.Performed.{Performed}

@@ -128,3 +128,12 @@ answerCode (answer-of.Rejected n) = n
 abbrev pub answerValue : Answer → ℤ
 answerValue (answer-of.Accepted v) = v
 answerValue (answer-of.Rejected n) = pos 0
+
+-- what is made of a call's answer, by its cases
+abbrev pub byOutcome : {A : Type 0} → Outcome → A → (ℕ → A) → A
+byOutcome outcome-of.Accepted a r = a
+byOutcome (outcome-of.Rejected code) a r = r code
+
+abbrev pub byAnswer : {A : Type 0} → Answer → (ℤ → A) → (ℕ → A) → A
+byAnswer (answer-of.Accepted v) a r = a v
+byAnswer (answer-of.Rejected code) a r = r code

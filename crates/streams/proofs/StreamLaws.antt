@@ -12,7 +12,7 @@ use lib.IntN.{ℤ}
 use lib.ListN.{length, length-drop, length-replicate, take, drop, getD, replicate}
 use lib.Ieee.{Float}
 use lib.Seq.{sets, sets-eq, take-at, take-length}
-use Rattle.state.specs.Rejections.{unless, outcome, answer, input-too-long, truncated}
+use Rattle.state.specs.Rejections.{unless, outcome, answer, input-too-long, truncated, byOutcome, byAnswer}
 use Rattle.state.specs.States.{check}
 use Rattle.state.specs.Switching.{switchToEven}
 use Rattle.state.specs.declared.State.{State}
@@ -51,7 +51,9 @@ use Rattle.replies.specs.declared.Reply.{Reply}
 use Rattle.replies.specs.declared.Reply.the-variants as reply-of
 use Rattle.lines.specs.declared.Line.the-variants as line-of
 use Rattle.lines.proofs.LineLaws.{savedCount, line-most, long-enough}
-use Rattle.commands.specs.Commands.{start, accepted, rejected, byOutcome, byAnswer, byVariance, byRelative, finish, restOffset, openSnapshot, takeReading, takeMissing, switchState, giveForecast, giveVariance, giveRelativeVariance, saveState, storeState, restoreState, act, buffered, nextCommand, perform, performBytes, performCheckpoints, isLast}
+use Rattle.replies.specs.Replies.{isLast}
+use Rattle.actions.specs.Actions.{byVariance, byRelative}
+use Rattle.commands.specs.Commands.{start, accepted, rejected, finish, restOffset, openSnapshot, takeReading, takeMissing, switchState, giveForecast, giveVariance, giveRelativeVariance, saveState, storeState, restoreState, act, buffered, nextCommand, perform, performBytes, performCheckpoints}
 use Rattle.streams.specs.Stream.{inputLimit, snapshotRoom, lineRoom, admit, next, answersIn, answersFrom, answersOf, answers, writeNext, nextBytes, finalReply, lastReply, lineAfter, textOf}
 use Rattle.streams.specs.Promises.{Passes, Sound, Holding, EndsOnce, Answers, Openings, Offsets}
 use Rattle.commands.specs.declared.Session.{Session}

@@ -19,7 +19,8 @@ use Rattle.decoding.specs.declared.Command.the-variants as command-of
 use Rattle.lines.specs.Lines.{lineOf, writeLine}
 use Rattle.replies.specs.declared.Reply.the-variants as reply-of
 use Rattle.lines.specs.declared.Line.the-variants as line-of
-use Rattle.commands.specs.Commands.{start, accepted, rejected, nextCommand, perform, performCheckpoints, isLast}
+use Rattle.replies.specs.Replies.{isLast}
+use Rattle.commands.specs.Commands.{start, accepted, rejected, nextCommand, perform, performCheckpoints}
 use Rattle.streams.specs.Stream.{inputLimit, lineRoom, next, answersFrom, answers, lineAfter, textOf, text}
 use Rattle.commands.specs.declared.Session.{Session}
 use Rattle.commands.specs.declared.Performed.{Performed}

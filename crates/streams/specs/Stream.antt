@@ -13,7 +13,8 @@ use Rattle.checkpoints.specs.Checkpoints.{noCheckpoints}
 use Rattle.lines.specs.Lines.{lineOf, writeLine, lineBytes}
 use Rattle.replies.specs.declared.Reply.{Reply}
 use Rattle.replies.specs.declared.Reply.the-variants as reply-of
-use Rattle.commands.specs.Commands.{start, rejected, perform, performCheckpoints, isLast}
+use Rattle.replies.specs.Replies.{isLast}
+use Rattle.commands.specs.Commands.{start, rejected, perform, performCheckpoints}
 use Rattle.commands.specs.declared.Session.{Session}
 use Rattle.commands.specs.declared.Performed.{Performed}
 use Rattle.streams.specs.declared.Written.{Written}

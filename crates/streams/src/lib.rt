@@ -7,12 +7,11 @@ use commands::perform;
 use layout::MAX_SIZE;
 use lines::Line;
 use lines::write_line;
-use replies::Reply;
 use state::INPUT_TOO_LONG;
 use state::Outcome;
 ghost use mathlib.Core.Path.{_≡_};
 ghost use lib.ListN.{length};
-ghost use Rattle.commands.specs.Commands.{isLast, performCheckpoints};
+ghost use Rattle.commands.specs.Commands.{performCheckpoints};
 ghost use Rattle.streams.specs.Stream.{admit, writeNext, nextBytes};
 
 // The longest input of the program.
@@ -25,37 +24,6 @@ pub const MAX_LINE: usize = 3 + 2 * MAX_SIZE;
 pub struct Written {
     pub performed: Performed,
     pub line: Line,
-}
-
-// X and N are a stream's last answers.
-pub fn is_last(reply: Reply) -> bool
-    ensures { λ r. ⌜ r ≡ isLast reply ⌝ }
-{
-    match reply {
-        Reply::Rejected { code: _, offset: _ } => true,
-        Reply::Ended(_) => true,
-        Reply::Opened {
-            model: _,
-            period: _,
-        } => false,
-        Reply::Residual(_) => false,
-        Reply::Missing => false,
-        Reply::Forecast {
-            horizon: _,
-            value: _,
-        } => false,
-        Reply::Variance {
-            horizon: _,
-            high: _,
-            low: _,
-        } => false,
-        Reply::Saved(_) => false,
-        Reply::Silent => false,
-        Reply::RelativeVariance {
-            horizon: _,
-            bits: _,
-        } => false,
-    }
 }
 
 // Whether the program takes a stream: tested once, before its first command.

@@ -7,7 +7,8 @@ use Rattle.commands.specs.declared.Session.{Session}
 use Rattle.commands.specs.declared.Performed.{Performed}
 use Rattle.streams.specs.declared.Written.{Written}
 use Rattle.streams.specs.Stream.{next, answersFrom, lastReply}
-use Rattle.commands.specs.Commands.{isLast, start}
+use Rattle.replies.specs.Replies.{isLast}
+use Rattle.commands.specs.Commands.{start}
 use lib.ListN.{length}
 use native.Mathlib.Omega.{arith}
 use mathlib.Core.Path.{_≡_, refl, sym, ap, _∙_}
