@@ -2,6 +2,7 @@
 use super::Numbers;
 use super::Terms;
 use super::Update;
+use rounding::round;
 use state::BAD_READING;
 use state::COUNT_FULL;
 use state::LEAVES_RANGE;
@@ -17,20 +18,10 @@ ghost use mathlib.Core.Bool.{_&&_};
 ghost use Prim.Native.Nat.{_≤_, _<_};
 ghost use Rattle.integers.specs.Bounds.{Within};
 ghost use Rattle.state.specs.Rejections.{unless, _then_, bad-reading};
-ghost use Rattle.state.specs.Fixed.{R, share, inRange, isReading};
+ghost use Rattle.state.specs.Fixed.{share, inRange, isReading};
 ghost use Rattle.ets.specs.Steps.{residual, squareOf, scoreAfter, countCode};
 ghost use Rattle.ets.specs.Updates.{numbersOf, termsAt, corrections, notUpdated, readingUpdate, advance, missingUpdate};
 ghost use Rattle.ets.specs.Bounds.{NumbersIn, AdvanceIn, TermsIn, ScoreIn};
-
-// R(v): what is added before the shift makes it round to nearest. For ties to even it is one less where the whole part is even, without a branch.
-fn round(even: bool, v: i64) -> i64
-    requires { ⌜ Within 4611686018427387904 v ⌝ }
-    ensures { λ r. ⌜ r ≡ R even v ⌝ }
-{
-    let rule = even as i64;
-    let odd = (v >> 16) & rule;
-    (v + (32768 - rule) + odd) >> 16
-}
 
 // R(a × x): the share that a parameter gives of x.
 pub fn share(even: bool, a: u32, x: i64) -> i64
