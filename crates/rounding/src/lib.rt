@@ -28,7 +28,7 @@ fn to_i64(n: u64) -> i64
 }
 
 // R(v): what is added before the shift makes it round to nearest. For ties to even it is one less where the whole part is even, without a branch.
-// The sum is taken modulo 2^64, which excludes no v at no cost: R(v) wherever v + 32768 fits (proofs/WrappedLaws).
+// The sum is taken modulo 2^64, so that no v is excluded, and the compiler makes a plain sum of it: R(v) wherever v + 32768 fits (proofs/WrappedLaws).
 pub fn round(even: bool, v: i64) -> i64
     ensures { λ r. ⌜ r ≡ wrapped even v ⌝ }
 {

@@ -22,8 +22,11 @@ fn share(even: bool, a: u32, x: u64) -> u64
     ensures bound { λ r. ⌜ r ≤ x ⌝ }
 {
     let v = ((a as u64) * x) as i64;
-    let r = if even { round(true, v) } else { round(false, v) };
-    r as u64
+    if even {
+        round(true, v) as u64
+    } else {
+        round(false, v) as u64
+    }
 }
 
 // The next P; 0 where the trend is not damped and nothing uses it.

@@ -5,7 +5,6 @@ use Rattle.rounding.proofs.WrappedLaws.{rule-le, code-fits, code-is}
 use Rattle.rounding.proofs.round.Statement.{statement}
 use Rattle.rounding.proofs.round.Tie as tie
 
-
 sub-wrapping-add-u64 : tie.Need-sub-wrapping-add-u64
 sub-wrapping-add-u64 c = omega (arith, rule-le (c .before .args .even))
 
