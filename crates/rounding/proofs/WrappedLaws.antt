@@ -1,5 +1,5 @@
 -- R as the code computes it in 64 bits: with rule 0 or 1 and the bits n of v, (n + (32768 − rule) + ((n >> 16) & rule)) >> 16, the sum modulo 2^64; and where it is R.
-use Prim.Native.Nat.{ℕ, suc, _+_, _-_, _/_, _%_, _^_, _≤_, _<_}
+use Prim.Native.Nat.{ℕ, _+_, _-_, _/_, _%_, _^_, _≤_, _<_}
 use mathlib.Core.Path.{_≡_, refl, sym, ap, _∙_}
 use mathlib.Core.Bool.{Bool, true, false}
 use native.Mathlib.Omega.{arith}
@@ -7,7 +7,7 @@ use lib.Bits.{bitAnd, and-mask}
 use lib.IntN.{ℤ, pos, negsuc, natAbs, _+ℤ_}
 use lib.Signed.{shrZ, mag}
 use mir.Syntax.{w64}
-use mir.Val.{Fits, SFits, hbits, toZ, ofZ, boolByte}
+use mir.Val.{SFits, hbits, toZ, ofZ, boolByte}
 use mir.ValLaws.{toZ-ofZ}
 use Rattle.integers.specs.Bounds.{Within}
 use Rattle.integers.proofs.Difference.{up, dn, known, sum, back, fits-shr}
@@ -32,7 +32,7 @@ unfolding wrapped added
 wrapped-is false v = refl
 wrapped-is true v = refl
 
--- ---- what the code's operations ask, and what they give
+-- ---- what the code's operations give
 pub rule-le : (even : Bool) → boolByte even ≤ 1
 rule-le false = omega arith
 rule-le true = omega arith
@@ -46,9 +46,6 @@ module _ (even : Bool) (v : ℤ) (f : SFits w64 v) {n : ℕ} (e : n ≡ ofZ w64 
 
   code-adds : code ≡ added even v
   code-adds = rw bits-of (adds even v f)
-
-  pub code-fits : Fits w64 code
-  code-fits = record { fits = omega (arith, code-adds, added-le even v) }
 
   pub code-is : {s : ℕ} {r : ℤ} → s ≡ (n + code) % 2 ^ 64 → r ≡ toZ w64 s → mag r < 2 ^ hbits w64 → toZ w64 (ofZ w64 (shrZ (toZ w64 (ofZ w64 r)) 65536)) ≡ wrapped even v
   code-is {s} {r} p q ok =

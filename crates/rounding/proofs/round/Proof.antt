@@ -1,7 +1,10 @@
 -- `rounding::round` meets its contract.
+use Prim.Native.Nat.{_/_}
 use native.Mathlib.Omega.{arith}
+use lib.Bits.{and-le-r}
+use mir.Val.{boolByte}
 use borrow.Author.Needs.{needs}
-use Rattle.rounding.proofs.WrappedLaws.{rule-le, code-fits, code-is}
+use Rattle.rounding.proofs.WrappedLaws.{rule-le, code-is}
 use Rattle.rounding.proofs.round.Statement.{statement}
 use Rattle.rounding.proofs.round.Tie as tie
 
@@ -9,7 +12,7 @@ sub-wrapping-add-u64 : tie.Need-sub-wrapping-add-u64
 sub-wrapping-add-u64 c = omega (arith, rule-le (c .before .args .even))
 
 add-wrapping-add-u64 : tie.Need-add-wrapping-add-u64
-add-wrapping-add-u64 c = code-fits (c .before .args .even) (c .before .args .v) (c .before .fits .v) (c .of-i64 .ensures)
+add-wrapping-add-u64 c = omega (arith, rule-le (c .before .args .even), and-le-r (c .of-i64 .result / 65536) (boolByte (c .before .args .even)))
 
 returns : tie.Need-returns
 returns c =
