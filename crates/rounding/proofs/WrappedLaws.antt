@@ -1,4 +1,4 @@
--- R as the code computes it in 64 bits: with rule 0 or 1 and the bits n of v, (n + (32768 − rule) + ((n >> 16) & rule)) >> 16, the sum modulo 2^64; and where it is R.
+-- R as the code computes it in 64 bits: with rule 0 or 1 and the bits n of v, ((n + (32768 − rule)) + ((n >> 16) & rule)) >> 16, the sums modulo 2^64; and where it is R.
 use Prim.Native.Nat.{ℕ, _+_, _-_, _/_, _%_, _^_, _≤_, _<_}
 use mathlib.Core.Path.{_≡_, refl, sym, ap, _∙_}
 use mathlib.Core.Bool.{Bool, true, false}
@@ -38,19 +38,18 @@ rule-le false = omega arith
 rule-le true = omega arith
 
 module _ (even : Bool) (v : ℤ) (f : SFits w64 v) {n : ℕ} (e : n ≡ ofZ w64 (toZ w64 (ofZ w64 v))) where
-  abbrev code : ℕ
-  code = (32768 - boolByte even) + bitAnd (n / 65536) (boolByte even)
-
   bits-of : n ≡ ofZ w64 v
   bits-of = e ∙ ap (ofZ w64) (toZ-ofZ w64 v f)
 
-  code-adds : code ≡ added even v
-  code-adds = rw bits-of (adds even v f)
+  -- the sum in two steps, each modulo 2^64
+  code-sum : {m s : ℕ} → m ≡ (n + (32768 - boolByte even)) % 2 ^ 64 → s ≡ (m + bitAnd (n / 65536) (boolByte even)) % 2 ^ 64 → s ≡ (ofZ w64 v + added even v) % 2 ^ 64
+  code-sum = rw bits-of (λ p q. omega (arith, p, q, adds even v f))
 
-  pub code-is : {s : ℕ} {r : ℤ} → s ≡ (n + code) % 2 ^ 64 → r ≡ toZ w64 s → mag r < 2 ^ hbits w64 → toZ w64 (ofZ w64 (shrZ (toZ w64 (ofZ w64 r)) 65536)) ≡ wrapped even v
-  code-is {s} {r} p q ok =
+  pub code-is : {m s : ℕ} {r : ℤ} → m ≡ (n + (32768 - boolByte even)) % 2 ^ 64 → s ≡ (m + bitAnd (n / 65536) (boolByte even)) % 2 ^ 64 → r ≡ toZ w64 s → mag r < 2 ^ hbits w64
+      → toZ w64 (ofZ w64 (shrZ (toZ w64 (ofZ w64 r)) 65536)) ≡ wrapped even v
+  code-is {r} p q u ok =
       let b : toZ w64 (ofZ w64 (shrZ r 65536)) ≡ shrZ r 65536 = toZ-ofZ w64 (shrZ r 65536) (fits-shr {z = r} 65536 (record { sfits = ok })) in
-      let t : shrZ r 65536 ≡ wrapped even v = rw (q, p, code-adds, bits-of) (sym (wrapped-is even v)) in
+      let t : shrZ r 65536 ≡ wrapped even v = rw (u, code-sum p q) (sym (wrapped-is even v)) in
       rw (back w64 r ok) (b ∙ t)
 
 -- ---- where it is R

@@ -1,8 +1,5 @@
 -- `rounding::round` meets its contract.
-use Prim.Native.Nat.{_/_}
 use native.Mathlib.Omega.{arith}
-use lib.Bits.{and-le-r}
-use mir.Val.{boolByte}
 use borrow.Author.Needs.{needs}
 use Rattle.rounding.proofs.WrappedLaws.{rule-le, code-is}
 use Rattle.rounding.proofs.round.Statement.{statement}
@@ -11,13 +8,18 @@ use Rattle.rounding.proofs.round.Tie as tie
 sub-wrapping-add-u64 : tie.Need-sub-wrapping-add-u64
 sub-wrapping-add-u64 c = omega (arith, rule-le (c .before .args .even))
 
-add-wrapping-add-u64 : tie.Need-add-wrapping-add-u64
-add-wrapping-add-u64 c = omega (arith, rule-le (c .before .args .even), and-le-r (c .of-i64 .result / 65536) (boolByte (c .before .args .even)))
-
 returns : tie.Need-returns
 returns c =
-    let s = c .before .before .before in
-    code-is (s .args .even) (s .args .v) (s .fits .v) (c .before .before .of-i64 .ensures) (c .before .wrapping-add-u64 .ensures) (c .to-i64 .ensures) (c .to-i64 .ok)
+    let s = c .before .before .before .before in
+    code-is
+    (s .args .even)
+    (s .args .v)
+    (s .fits .v)
+    (c .before .before .before .of-i64 .ensures)
+    (c .before .before .wrapping-add-u64 .ensures)
+    (c .before .wrapping-add-u642 .ensures)
+    (c .to-i64 .ensures)
+    (c .to-i64 .ok)
 
 pub round-spec : {M : Type 1} → statement M
 round-spec =
@@ -26,7 +28,7 @@ round-spec =
     (λ c κs. search needs)
     (λ c. search needs)
     sub-wrapping-add-u64
-    add-wrapping-add-u64
+    (λ c κs. search needs)
     (λ c κs. search needs)
     (λ c κs. search needs)
     returns)
