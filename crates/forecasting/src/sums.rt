@@ -1,6 +1,7 @@
 // The sums of a forecast, from a state that passed its checks.
 use models::has_season;
 use models::ties_to_even;
+use rounding::round;
 use state::State;
 use turns::start;
 use turns::walk;
@@ -9,23 +10,13 @@ ghost use mathlib.Core.List.{_++_};
 ghost use Prim.Native.Nat.{_≤_, _<_};
 ghost use lib.ListN.{length, drop};
 ghost use Rattle.integers.specs.Bounds.{Within};
-ghost use Rattle.state.specs.Fixed.{R, share};
+ghost use Rattle.state.specs.Fixed.{share};
 ghost use Rattle.calendars.specs.Calendars.{calendarOf};
 ghost use Rattle.state.specs.States.{check};
 ghost use Rattle.state.specs.Valid.{Valid};
 ghost use Rattle.ets.specs.Bounds.{Walkable};
 ghost use Rattle.forecasts.specs.Forecasts.{trendLine, seasonAt};
 ghost use Rattle.forecasts.specs.Calendars.{placeBy, forecastListBy};
-
-// R(v), as in the step: for ties to even one less is added where the whole part is even, without a branch.
-fn round(even: bool, v: i64) -> i64
-    requires { ⌜ Within 4611686018427387904 v ⌝ }
-    ensures { λ r. ⌜ r ≡ R even v ⌝ }
-{
-    let rule = even as i64;
-    let odd = (v >> 16) & rule;
-    (v + (32768 - rule) + odd) >> 16
-}
 
 // R(a × x): the share that a parameter gives of x. By each rule on its own, so that the compiler takes the test out of the loops below.
 fn share(even: bool, a: u32, x: i64) -> i64

@@ -3,6 +3,5 @@ pub mod Answers
 pub mod Rounding
 pub mod Passing
 pub mod Regions
-pub mod RoundingCode
 pub mod Switches
 pub mod Computed

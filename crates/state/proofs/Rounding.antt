@@ -183,11 +183,6 @@ unfolding share
 share-within even h w = R-within even (within-mul h w)
 
 -- of a natural number
-pub round-nat : (even : Bool) (v : ℕ) → natAbs (R even (pos v)) ≡ (v + added even (pos v)) / 65536
-unfolding R added
-round-nat false v = refl
-round-nat true v = refl
-
 pub shareNat-is : (even : Bool) (a x : ℕ) → shareNat even a x ≡ (a * x + added even (pos (a * x))) / 65536
 unfolding R share added
 shareNat-is false a x = refl

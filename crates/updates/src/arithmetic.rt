@@ -3,6 +3,7 @@ use ets::Numbers;
 use ets::Terms;
 use ets::Update;
 use ranges::in_range;
+use rounding::round;
 use state::LEAVES_RANGE;
 use state::Score;
 use state::first;
@@ -15,20 +16,10 @@ ghost use mathlib.Core.Path.{_≡_};
 ghost use Prim.Native.Nat.{_≤_};
 ghost use Rattle.integers.specs.Bounds.{Within};
 ghost use Rattle.state.specs.Rejections.{unless};
-ghost use Rattle.state.specs.Fixed.{R, share};
+ghost use Rattle.state.specs.Fixed.{share};
 ghost use Rattle.ets.specs.Steps.{residual, squareOf, scoreAfter};
 ghost use Rattle.ets.specs.Updates.{termsAt, corrections, readingUpdate, advance, missingUpdate};
 ghost use Rattle.ets.specs.Bounds.{NumbersIn, AdvanceIn, TermsIn, ScoreIn};
-
-// R(v): what is added before the shift makes it round to nearest. For ties to even it is one less where the whole part is even, without a branch.
-fn round(even: bool, v: i64) -> i64
-    requires { ⌜ Within 4611686018427387904 v ⌝ }
-    ensures { λ r. ⌜ r ≡ R even v ⌝ }
-{
-    let rule = even as i64;
-    let odd = (v >> 16) & rule;
-    (v + (32768 - rule) + odd) >> 16
-}
 
 // R(a × x): the share that a parameter gives of x.
 pub fn share(even: bool, a: u32, x: i64) -> i64

@@ -2,28 +2,18 @@
 use models::has_season;
 use models::ties_to_even;
 use models::trend_of;
+use rounding::round;
 use state::State;
 use weights::Variance;
 ghost use Prim.Native.Nat.{_+_, _*_, _/_, _%_, _≤_};
 ghost use mathlib.Core.Path.{_≡_};
 ghost use mathlib.Core.Bool.{cond};
 ghost use lib.Dec.{eqb, ltb};
-ghost use lib.IntN.{pos, natAbs};
-ghost use Rattle.state.specs.Fixed.{R, shareNat};
+ghost use Rattle.state.specs.Fixed.{shareNat};
 ghost use Rattle.state.specs.Valid.{Valid};
 ghost use Rattle.weights.specs.Weights.{coefficient, weightOf};
 ghost use Rattle.weights.specs.Groups.{groupCount};
 ghost use Rattle.weights.specs.Facts.{At};
-
-// R(v) of a number that is not negative, as in the step: for ties to even one less is added where the whole part is even, without a branch.
-fn round(even: bool, v: u64) -> u64
-    requires { ⌜ v ≤ 2203318222848 ⌝ }
-    ensures { λ r. ⌜ r ≡ natAbs (R even (pos v)) ⌝ }
-{
-    let rule = even as u64;
-    let odd = (v >> 16) & rule;
-    (v + (32768 - rule) + odd) >> 16
-}
 
 // R(a × x). By each rule on its own, so that the compiler takes the test out of the loop below.
 fn share(even: bool, a: u32, x: u64) -> u64
@@ -31,11 +21,11 @@ fn share(even: bool, a: u32, x: u64) -> u64
     ensures value { λ r. ⌜ r ≡ shareNat even a x ⌝ }
     ensures bound { λ r. ⌜ r ≤ x ⌝ }
 {
-    let v = (a as u64) * x;
+    let v = ((a as u64) * x) as i64;
     if even {
-        round(true, v)
+        round(true, v) as u64
     } else {
-        round(false, v)
+        round(false, v) as u64
     }
 }
 

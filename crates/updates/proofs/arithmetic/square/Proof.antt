@@ -1,26 +1,23 @@
 -- `ets::arithmetic::square` meets its contract: the product is not negative, and small.
 use Prim.Native.Nat.{_≤_}
-use mathlib.Core.Path.{_≡_, refl, ap, _∙_}
+use mathlib.Core.Path.{_≡_, refl}
 use native.Mathlib.Omega.{arith}
 use lib.IntN.{pos, _*ℤ_}
 use mir.Syntax.{w64}
 use mir.Val.{SFits, toZ, ofZ}
 use mir.ValLaws.{toZ-ofZ}
-use Rattle.integers.proofs.Difference.{back}
-use Rattle.integers.proofs.Bounds.{within-le, within-back}
+use Rattle.integers.proofs.Bounds.{within-back}
+use Rattle.rounding.proofs.WrappedLaws.{result-is}
+use borrow.Author.Needs.{needs}
 use Rattle.state.specs.Fixed.{R}
 use Rattle.ets.specs.Steps.{squareOf}
 use Rattle.ets.proofs.ScoreLaws.{square-le, product-is}
 use Rattle.updates.proofs.arithmetic.square.Statement.{statement}
 use Rattle.updates.proofs.arithmetic.square.Tie as tie
 
-round-requires : tie.Need-round-requires
-round-requires c κs = rw (within-back w64 (c .pre) (omega arith)) (within-le 4611686018427387904 (omega arith) (c .pre))
-
 module _ (c : tie.After-round) where
   rounded : toZ w64 (ofZ w64 (c .round .result)) ≡ R (c .before .args .even) (c .before .args .e)
-  rounded =
-      back w64 (c .round .result) (c .round .ok) ∙ c .round .ensures ∙ ap (R (c .before .args .even)) (within-back w64 (c .before .pre) (omega arith))
+  rounded = result-is (c .before .args .even) (c .round .ok) (c .round .ensures) (within-back w64 (c .before .pre) (omega arith)) (c .before .pre) (omega arith)
 
   product : toZ w64 (ofZ w64 (c .round .result)) *ℤ toZ w64 (ofZ w64 (c .round .result)) ≡ pos (squareOf (c .before .args .even) (c .before .args .e))
   unfolding squareOf
@@ -45,4 +42,4 @@ returns : tie.Need-returns
 returns c = rw (product c, again c) (refl, small c)
 
 pub square-spec : {M : Type 1} → statement M
-square-spec = tie.close (tie.spec round-requires mul-result cast-result returns)
+square-spec = tie.close (tie.spec (λ c κs. search needs) mul-result cast-result returns)
