@@ -65,35 +65,35 @@ unfolding openSnapshot
 opened-rejected s x code q h = action-laws.opened-rejected (drop (x .at) s) (onward (restOffset s (x .at))) (λ (c : ℕ). rejected c (restOffset s (x .at)) x) code q h
 
 -- ---- an action is settled to what its command answers
-module _ (x : Session) (next offset : ℕ) (s t : State) where
-  by-outcome : (o : Outcome) (r : Reply) → settled x next offset (byOutcome o (action-of.accepted r t) (action-of.rejected s)) ≡ byOutcome o (accepted r next t) (λ (c : ℕ). rejected c offset x)
+module _ (x : Session) (next offset : ℕ) (t : State) where
+  by-outcome : (o : Outcome) (r : Reply) → settled (x .at) (x .active) next offset (byOutcome o (action-of.accepted r t) (action-of.rejected (x .state))) ≡ byOutcome o (accepted r next t) (λ (c : ℕ). rejected c offset x)
   by-outcome outcome-of.Accepted r = refl
   by-outcome (outcome-of.Rejected c) r = refl
 
-  by-answer : (o : Answer) (r : ℤ → Reply) → settled x next offset (byAnswer o (λ v. action-of.accepted (r v) t) (action-of.rejected s)) ≡ byAnswer o (λ v. accepted (r v) next t) (λ (c : ℕ). rejected c offset x)
+  by-answer : (o : Answer) (r : ℤ → Reply) → settled (x .at) (x .active) next offset (byAnswer o (λ v. action-of.accepted (r v) t) (action-of.rejected (x .state))) ≡ byAnswer o (λ v. accepted (r v) next t) (λ (c : ℕ). rejected c offset x)
   by-answer (answer-of.Accepted v) r = refl
   by-answer (answer-of.Rejected c) r = refl
 
-  by-variance : (o : Variance) (r : ℕ → ℕ → Reply) → settled x next offset (byVariance o (λ a b. action-of.accepted (r a b) t) (action-of.rejected s)) ≡ byVariance o (λ a b. accepted (r a b) next t) (λ (c : ℕ). rejected c offset x)
+  by-variance : (o : Variance) (r : ℕ → ℕ → Reply) → settled (x .at) (x .active) next offset (byVariance o (λ a b. action-of.accepted (r a b) t) (action-of.rejected (x .state))) ≡ byVariance o (λ a b. accepted (r a b) next t) (λ (c : ℕ). rejected c offset x)
   by-variance (variance-of.Accepted a b) r = refl
   by-variance (variance-of.Rejected c) r = refl
 
-  by-relative : (o : RelativeVariance) (r : Float → Reply) → settled x next offset (byRelative o (λ v. action-of.accepted (r v) t) (action-of.rejected s)) ≡ byRelative o (λ v. accepted (r v) next t) (λ (c : ℕ). rejected c offset x)
+  by-relative : (o : RelativeVariance) (r : Float → Reply) → settled (x .at) (x .active) next offset (byRelative o (λ v. action-of.accepted (r v) t) (action-of.rejected (x .state))) ≡ byRelative o (λ v. accepted (r v) next t) (λ (c : ℕ). rejected c offset x)
   by-relative (relative-of.Accepted v) r = refl
   by-relative (relative-of.Rejected c) r = refl
 
-  by-test : (b : Bool) (r : Reply) (c : ℕ) → settled x next offset (cond b (action-of.accepted r t) (action-of.rejected s c)) ≡ cond b (accepted r next t) (rejected c offset x)
+  by-test : (b : Bool) (r : Reply) (c : ℕ) → settled (x .at) (x .active) next offset (cond b (action-of.accepted r t) (action-of.rejected (x .state) c)) ≡ cond b (accepted r next t) (rejected c offset x)
   by-test true r c = refl
   by-test false r c = refl
 
 -- a group at the session's offset: the rest of the stream begins within its bytes
 pub opened : (s : List ℕ) (x : Session) (o : Opening) → x .at ≤ length s → o ≡ opening (x .state) (drop (x .at) s)
-    → (x .at + o .size ≤ length s) × (settled x (x .at + o .size) (x .at + o .size) (o .action) ≡ openSnapshot s x)
+    → (x .at + o .size ≤ length s) × (settled (x .at) (x .active) (x .at + o .size) (x .at + o .size) (o .action) ≡ openSnapshot s x)
 unfolding openSnapshot
 opened s x o h e =
     let u = drop (x .at) s in
     let n = ap (λ (p : Opening). p .size) e in
-    (omega (arith, offsets u .within, length-drop (x .at) s), rw e (by-test x (restOffset s (x .at)) (restOffset s (x .at)) (x .state) (read u .state) (eqb (openCode u) 0) _ _))
+    (omega (arith, offsets u .within, length-drop (x .at) s), rw e (by-test x (restOffset s (x .at)) (restOffset s (x .at)) (read u .state) (eqb (openCode u) 0) _ _))
 
 -- what a command makes of a session's state, where it neither opens a group nor ends the stream
 module _ (x : Session) (cs : List ℕ) (room : ℕ) (a : Action) where
@@ -111,20 +111,20 @@ module _ (x : Session) (cs : List ℕ) (room : ℕ) (a : Action) where
   Made (command-of.Store slot) = a ≡ action-of.storeState (x .state) slot (length cs) action-of.accepted (action-of.rejected (x .state))
   Made (command-of.Restore slot) = a ≡ action-of.restoreState slot cs action-of.accepted (action-of.rejected (x .state))
 
-  settles : (s : List ℕ) (next : ℕ) (k : Command) → Made k → settled x next (x .at) a ≡ act s x cs room next k
+  settles : (s : List ℕ) (next : ℕ) (k : Command) → Made k → settled (x .at) (x .active) next (x .at) a ≡ act s x cs room next k
   unfolding takeReading takeMissing switchState giveForecast giveVariance giveRelativeVariance saveState storeState restoreState
   settles s next command-of.End e = absurd e
   settles s next command-of.Open e = absurd e
-  settles s next (command-of.Reading y) e = rw e (by-answer x next (x .at) (x .state) (step (x .state) y .state) (step (x .state) y .residual) (λ v. reply-of.Residual v))
-  settles s next command-of.Missing e = rw e (by-outcome x next (x .at) (x .state) (missing (x .state) .state) (missing (x .state) .outcome) reply-of.Missing)
-  settles s next (command-of.Forecast h) e = rw e (by-answer x next (x .at) (x .state) (x .state) (forecast (x .state) h) (λ v. reply-of.Forecast h v))
-  settles s next (command-of.Variance h sigma2) e = rw e (by-variance x next (x .at) (x .state) (x .state) (variance (x .state) h sigma2) (λ m n. reply-of.Variance h m n))
-  settles s next command-of.Save e = rw e (by-outcome x next (x .at) (x .state) (x .state) (save (x .state) room) (reply-of.Saved (length (encoded (x .state)))))
+  settles s next (command-of.Reading y) e = rw e (by-answer x next (x .at) (step (x .state) y .state) (step (x .state) y .residual) (λ v. reply-of.Residual v))
+  settles s next command-of.Missing e = rw e (by-outcome x next (x .at) (missing (x .state) .state) (missing (x .state) .outcome) reply-of.Missing)
+  settles s next (command-of.Forecast h) e = rw e (by-answer x next (x .at) (x .state) (forecast (x .state) h) (λ v. reply-of.Forecast h v))
+  settles s next (command-of.Variance h sigma2) e = rw e (by-variance x next (x .at) (x .state) (variance (x .state) h sigma2) (λ m n. reply-of.Variance h m n))
+  settles s next command-of.Save e = rw e (by-outcome x next (x .at) (x .state) (save (x .state) room) (reply-of.Saved (length (encoded (x .state)))))
   settles s next (command-of.Rejected code) e = rw e
-  settles s next command-of.SwitchToEven e = rw e (by-outcome x next (x .at) (x .state) (switchToEven (x .state) .state) (switchToEven (x .state) .outcome) reply-of.Silent)
-  settles s next (command-of.RelativeVariance h sigma2) e = rw e (by-relative x next (x .at) (x .state) (x .state) (relativeVariance (x .state) h sigma2 maxHorizon) (λ v. reply-of.RelativeVariance h (toBits binary64 v)))
-  settles s next (command-of.Store slot) e = rw e (by-outcome x next (x .at) (x .state) (x .state) (store (x .state) slot (length cs)) reply-of.Silent)
-  settles s next (command-of.Restore slot) e = rw e (by-outcome x next (x .at) (x .state) (restore slot cs .state) (restore slot cs .outcome) reply-of.Silent)
+  settles s next command-of.SwitchToEven e = rw e (by-outcome x next (x .at) (switchToEven (x .state) .state) (switchToEven (x .state) .outcome) reply-of.Silent)
+  settles s next (command-of.RelativeVariance h sigma2) e = rw e (by-relative x next (x .at) (x .state) (relativeVariance (x .state) h sigma2 maxHorizon) (λ v. reply-of.RelativeVariance h (toBits binary64 v)))
+  settles s next (command-of.Store slot) e = rw e (by-outcome x next (x .at) (x .state) (store (x .state) slot (length cs)) reply-of.Silent)
+  settles s next (command-of.Restore slot) e = rw e (by-outcome x next (x .at) (restore slot cs .state) (restore slot cs .outcome) reply-of.Silent)
 
 -- ---- the command that was decoded is performed
 module _ (s : List ℕ) (x : Session) (d : Decoded) (k : Command) (q : d ≡ nextCommand s x) (e : d .command ≡ k) where
@@ -146,7 +146,7 @@ module _ (s : List ℕ) (x : Session) (d : Decoded) (k : Command) (q : d ≡ nex
 
 -- ---- an action was made of the state by the command that was decoded, and what the lent slices then hold
 pub record Done (s : List ℕ) (x : Session) (cs buffer : List ℕ) (d : Decoded) (a : Action) (kept saved : List ℕ) : Type 0 where
-  pub answer : settled x (d .next) (x .at) a ≡ act s x cs (length buffer) (d .next) (d .command)
+  pub answer : settled (x .at) (x .active) (d .next) (x .at) a ≡ act s x cs (length buffer) (d .next) (d .command)
   pub checkpoints : kept ≡ checkpointed x cs (d .command)
   pub bytes : saved ≡ buffered x buffer (d .command)
   pub as-many : (length kept ≡ length cs) × (length saved ≡ length buffer)
@@ -156,7 +156,7 @@ module _ (s : List ℕ) (x : Session) (cs buffer : List ℕ) (d : Decoded) {a : 
       → (length kept ≡ length cs) × (length saved ≡ length buffer) → Done s x cs buffer d a kept saved
   done k e m f g h = record { answer = rw e (settles x cs (length buffer) a s (d .next) k m); checkpoints = rw e f; bytes = rw e g; as-many = h }
 
-  pub performs-it : {p : Performed} → d ≡ nextCommand s x → Done s x cs buffer d a kept saved → p ≡ settled x (d .next) (x .at) a
+  pub performs-it : {p : Performed} → d ≡ nextCommand s x → Done s x cs buffer d a kept saved → p ≡ settled (x .at) (x .active) (d .next) (x .at) a
       → (p ≡ perform s x cs (length buffer)) × ((kept ≡ performCheckpoints s x cs) × (saved ≡ performBytes s x buffer))
   performs-it q k e =
       let r = performed s x d (d .command) q refl cs buffer (e ∙ k .answer) in

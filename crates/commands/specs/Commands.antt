@@ -1,6 +1,6 @@
 -- Document 01, "Commands": what a command of a stream answers, and what stands after it.
 use Prim.Native.Nat.{ℕ, _+_}
-use mathlib.Core.Bool.{true, false, cond}
+use mathlib.Core.Bool.{Bool, true, false, cond}
 use mathlib.Core.List.{List}
 use lib.IntN.{ℤ}
 use lib.ListN.{length, drop}
@@ -36,11 +36,12 @@ rejected code offset x = stopped (reply-of.Rejected code offset) x
 abbrev pub accepted : Reply → ℕ → State → Performed
 accepted r next s = record { reply = r; session = record { at = next; active = true; state = s } }
 
--- an action on the state, with the offset after its command, or with that of what is rejected
-abbrev pub settled : Session → ℕ → ℕ → Action → Performed
-settled x next offset a = byOutcome (a .outcome) (accepted (a .reply) next (a .state)) (λ (code : ℕ). rejected code offset x)
+-- what stands after an action on a session's state: the session's offset and whether a state was open, the offset after the command, and that of what is rejected
+abbrev pub settled : ℕ → Bool → ℕ → ℕ → Action → Performed
+settled at active next offset a =
+    byOutcome (a .outcome) (accepted (a .reply) next (a .state)) (λ (code : ℕ). rejected code offset (record { at = at; active = active; state = a .state }))
 
--- what is handed on of a command with so many bytes before it and the next one
+-- what a stream hands on of an accepted command, with the offset after it, and of a rejected one
 abbrev pub onward : ℕ → Reply → State → Performed
 onward next r t = accepted r next t
 

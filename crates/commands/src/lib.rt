@@ -80,5 +80,5 @@ pub fn perform(
         Command::Store(slot) => store_state(state, slot, checkpoints),
         Command::Restore(slot) => restore_state(state, slot, checkpoints),
     };
-    settle(session, found.next, session.at, action)
+    settle(session.at, session.active, found.next, session.at, action)
 }

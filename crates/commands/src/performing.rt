@@ -8,20 +8,11 @@ use state::Outcome;
 ghost use mathlib.Core.Path.{_≡_};
 ghost use Prim.Native.Nat.{_≤_};
 ghost use lib.ListN.{length};
-ghost use Rattle.commands.specs.Commands.{rejected, settled, finish, openSnapshot};
+ghost use Rattle.commands.specs.Commands.{settled, finish, openSnapshot};
 
-fn reject(code: u8, offset: usize, x: Session) -> Performed
-    ensures { λ r. ⌜ r ≡ rejected code offset x ⌝ }
-{
-    Performed {
-        reply: Reply::Rejected { code, offset },
-        session: x,
-    }
-}
-
-// With the offset after the command, and that of what is rejected.
-pub fn settle(x: Session, next: usize, offset: usize, action: Action) -> Performed
-    ensures { λ r. ⌜ r ≡ settled x next offset action ⌝ }
+// With the offset of the session and whether a state was open, the offset after the command, and that of what is rejected.
+pub fn settle(at: usize, active: bool, next: usize, offset: usize, action: Action) -> Performed
+    ensures { λ r. ⌜ r ≡ settled at active next offset action ⌝ }
 {
     let outcome = action.outcome;
     let reply = action.reply;
@@ -35,7 +26,10 @@ pub fn settle(x: Session, next: usize, offset: usize, action: Action) -> Perform
                 state,
             },
         },
-        Outcome::Rejected(code) => reject(code, offset, x),
+        Outcome::Rejected(code) => Performed {
+            reply: Reply::Rejected { code, offset },
+            session: Session { at, active, state },
+        },
     }
 }
 
@@ -57,5 +51,5 @@ pub fn open(s: &[u8], x: Session) -> Performed
     let found = open_snapshot(x.state, &s[at..]);
     let next = at + found.size;
     let action = found.action;
-    settle(x, next, next, action)
+    settle(at, x.active, next, next, action)
 }

@@ -12,7 +12,7 @@ use Rattle.commands.proofs.performing.open.Statement.{statement}
 use Rattle.commands.proofs.performing.open.Tie as tie
 
 opens : (r : tie.After-open-snapshot) → let a = r .before .before .before .args in let o = r .open-snapshot .result in
-    (a .x .at + o .size ≤ length (a .s .now)) × (settled (a .x) (a .x .at + o .size) (a .x .at + o .size) (o .action) ≡ openSnapshot (a .s .now) (a .x))
+    (a .x .at + o .size ≤ length (a .s .now)) × (settled (a .x .at) (a .x .active) (a .x .at + o .size) (a .x .at + o .size) (o .action) ≡ openSnapshot (a .s .now) (a .x))
 opens r =
     let a = r .before .before .before .args in
     opened _ _ _ (r .before .before .before .pre) (r .open-snapshot .ensures ∙ ap (opening (a .x .state)) (rest (a .s .now) (a .x .at)))

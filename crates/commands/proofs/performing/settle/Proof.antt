@@ -7,7 +7,7 @@ returns : tie.Need-returns
 returns c = rw (c .enum-told .given .1)
 
 returns-2 : tie.Need-returns-2
-returns-2 c = rw (c .before .before .outcome .given .1) (c .reject .ensures)
+returns-2 c = rw (c .before .outcome .given .1)
 
 pub settle-spec : {M : Type 1} → statement M
-settle-spec = tie.close (tie.spec (λ c. search needs) (λ c. search needs) (λ c κs. search needs) returns returns-2)
+settle-spec = tie.close (tie.spec (λ c. search needs) (λ c. search needs) returns returns-2)
