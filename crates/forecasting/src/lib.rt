@@ -2,7 +2,6 @@
 pub mod changes;
 mod sums;
 
-use horizons::DISPLAY_HORIZON;
 use horizons::MAX_HORIZON;
 use horizons::forecast_code_to;
 use horizons::horizon_ok;
@@ -25,6 +24,9 @@ ghost use mathlib.Core.Path.{_≡_};
 ghost use Prim.Native.Nat.{_≤_};
 ghost use lib.ListN.{length};
 ghost use Rattle.forecasts.specs.Forecasts.{forecastTo, forecastsTo, forecastCellsTo, forecast, forecasts, forecastCells, displayForecast, displayForecasts, displayForecastCells, forecastFromCode, forecastFrom};
+
+// The longest horizon of the bedside display, which has 48 cells (document 02, W-206).
+const DISPLAY_HORIZON: u32 = 48;
 
 fn forecast_to(limit: u32, s: State, h: u32) -> Answer
     requires { ⌜ limit ≤ 512 ⌝ }

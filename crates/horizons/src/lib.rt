@@ -7,10 +7,8 @@ use state::unless;
 ghost use mathlib.Core.Path.{_≡_};
 ghost use Rattle.forecasts.specs.Forecasts.{horizonOk, forecastCodeTo, forecastCode};
 
-// The longest horizon; and that of the bedside display, which has 48 cells (document 02, W-206).
+// The longest horizon.
 pub const MAX_HORIZON: u32 = 512;
-
-pub const DISPLAY_HORIZON: u32 = 48;
 
 // Whether a horizon is at least 1 and not above a limit.
 pub fn horizon_ok(limit: u32, h: u32) -> bool
