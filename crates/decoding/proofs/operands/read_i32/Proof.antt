@@ -4,7 +4,7 @@ use mathlib.Core.Path.{ap, _∙_}
 use mir.Syntax.{w32}
 use mir.Val.{toZ}
 use mir.ValLaws.{toZ-ofZ}
-use Rattle.snapshot.proofs.Signed.{down, down-fits}
+use Rattle.integers.proofs.Signed.{down, down-fits}
 use Rattle.decoding.proofs.operands.read_i32.Statement.{statement}
 use Rattle.decoding.proofs.operands.read_i32.Tie as tie
 

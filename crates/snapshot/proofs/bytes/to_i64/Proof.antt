@@ -3,7 +3,7 @@ use mathlib.Core.Path.{_∙_}
 use borrow.Author.Needs.{needs}
 use mir.Syntax.{w64}
 use mir.ValLaws.{toZ-ofZ}
-use Rattle.snapshot.proofs.Signed.{down, down-fits}
+use Rattle.integers.proofs.Signed.{down, down-fits}
 use Rattle.snapshot.proofs.bytes.to_i64.Statement.{statement}
 use Rattle.snapshot.proofs.bytes.to_i64.Tie as tie
 
