@@ -6,7 +6,7 @@ use forecasts::changes::forecasts_on;
 use forecasts::forecasts;
 use relative::RelativeVariance;
 use relative::relative_variance;
-use snapshot::slices::read;
+use slices::read;
 use state::code_of;
 use weights::Weight;
 use weights::groups::weight_groups;

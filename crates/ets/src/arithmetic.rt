@@ -1,11 +1,11 @@
 // The arithmetic of one step, on numbers within the bounds of a state that passed its checks.
-use super::Numbers;
 use super::Terms;
 use super::Update;
 use state::BAD_READING;
 use state::COUNT_FULL;
 use state::LEAVES_RANGE;
 use state::MAX_COUNT;
+use state::Numbers;
 use state::Score;
 use state::State;
 use state::checks::in_range;

@@ -1,5 +1,4 @@
 // The step on numbers: no state is copied, and no other season value is looked at.
-use super::Numbers;
 use super::Update;
 use super::arithmetic::missing_update;
 use super::arithmetic::not_updated;
@@ -9,6 +8,7 @@ use models::ONE;
 use state::BAD_PARAMETER;
 use state::BAD_POSITION;
 use state::BAD_VALUE;
+use state::Numbers;
 use state::Score;
 use state::checks::count_ok;
 use state::checks::in_range;

@@ -19,7 +19,7 @@ use Rattle.layout.specs.CommandTable.{opener}
 use Rattle.layout.specs.Layout.{modelAt, scoreAt, sizeOf, scoredIn, periodIn}
 use Rattle.snapshot.specs.Snapshots.{openCode, openOffset, decoded, read, restOf}
 use Rattle.snapshot.specs.Promises.{oldForm}
-use Rattle.snapshot.specs.Slices.{inPlaceCode}
+use Rattle.slices.specs.Slices.{inPlaceCode}
 use Rattle.saving.specs.Encoding.{encoded}
 use Rattle.saving.specs.Saving.{save, savedBytes}
 use Rattle.saving.specs.InPlace.{roomCode, inPlaceStepCode, inPlaceStepBytes, inPlaceResidual, inPlaceMissingCode, inPlaceMissingBytes, inPlaceSwitchCode, inPlaceSwitchBytes, inPlaceForecastCode, inPlaceForecast}
