@@ -5,7 +5,7 @@ use mathlib.Core.List.{List}
 use Rattle.state.specs.Rejections.{outcomeCode}
 use Rattle.state.proofs.Answers.{outcome-code}
 use Rattle.snapshot.specs.Snapshots.{decoded}
-use Rattle.snapshot.specs.Slices.{inPlaceCode, inPlaceRead}
+use Rattle.slices.specs.Slices.{inPlaceCode, inPlaceRead}
 use Rattle.snapshot.specs.declared.Opened.{Opened}
 
 module _ (d : List ℕ) (x : Opened) (e : x ≡ inPlaceRead d) where

@@ -10,7 +10,7 @@ use Rattle.ets.specs.Calendars.{batchOn, batchLevelsOn}
 use Rattle.forecasts.specs.Forecasts.{forecastsCode, forecastCells}
 use Rattle.forecasts.specs.Calendars.{forecastsCodeOn, forecastCellsOn}
 use Rattle.snapshot.specs.Snapshots.{decoded}
-use Rattle.snapshot.specs.Slices.{inPlaceCode}
+use Rattle.slices.specs.Slices.{inPlaceCode}
 use Rattle.weights.specs.Weights.{weight, weightCode, weightValue}
 use Rattle.weights.specs.Groups.{weightGroupsCode, weightGroupCells}
 use Rattle.relative_errors.specs.Relative.{answerCode, answerValue, relativeVariance, relativeCells}

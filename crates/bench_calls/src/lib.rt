@@ -4,7 +4,7 @@ use forecasting::changes::forecasts_on;
 use forecasting::forecasts;
 use relative_errors::RelativeVariance;
 use relative_variance::relative_variance;
-use snapshot::slices::read;
+use slices::read;
 use state::code_of;
 use updates::batches::batch;
 use updates::batches::batch_on;

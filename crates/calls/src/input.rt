@@ -1,8 +1,11 @@
 // The numbers of the records, one after the other, low byte first; 0 where the input has ended.
 use libc::STDIN_FILENO;
+use operands::read_i32;
+use operands::read_i64;
+use operands::read_u32;
+use operands::read_u64;
 use state::Score;
 use state::State;
-ghost use Prim.Native.Nat.{_<_};
 
 pub fn next_byte() -> u8 {
     let mut bytes = [0u8; 1];
@@ -10,47 +13,33 @@ pub fn next_byte() -> u8 {
     bytes[0]
 }
 
-fn next_pair() -> usize
-    ensures { λ r. ⌜ r < 65536 ⌝ }
-{
-    let low = next_byte() as usize;
-    low + 256 * (next_byte() as usize)
-}
-
-// A number of 32 bits, also a length.
-pub fn next_size() -> usize
-    ensures { λ r. ⌜ r < 4294967296 ⌝ }
-{
-    let low = next_pair();
-    low + 65536 * next_pair()
-}
-
 pub fn next_u32() -> u32 {
-    next_size() as u32
+    let mut bytes = [0u8; 4];
+    io::read_full(STDIN_FILENO, &mut bytes);
+    read_u32(&bytes, 0)
+}
+
+// A length, of 32 bits.
+pub fn next_size() -> usize {
+    next_u32() as usize
 }
 
 pub fn next_u64() -> u64 {
-    let low = next_size();
-    (low + 4294967296 * next_size()) as u64
+    let mut bytes = [0u8; 8];
+    io::read_full(STDIN_FILENO, &mut bytes);
+    read_u64(&bytes, 0)
 }
 
-// Two's complement.
 pub fn next_i32() -> i32 {
-    let n = next_u32();
-    if n < 0x8000_0000 {
-        n as i32
-    } else {
-        !((u32::MAX - n) as i32)
-    }
+    let mut bytes = [0u8; 4];
+    io::read_full(STDIN_FILENO, &mut bytes);
+    read_i32(&bytes, 0)
 }
 
 pub fn next_i64() -> i64 {
-    let n = next_u64();
-    if n < 0x8000_0000_0000_0000 {
-        n as i64
-    } else {
-        !((u64::MAX - n) as i64)
-    }
+    let mut bytes = [0u8; 8];
+    io::read_full(STDIN_FILENO, &mut bytes);
+    read_i64(&bytes, 0)
 }
 
 // The first elements of a slice, all where it has no more.

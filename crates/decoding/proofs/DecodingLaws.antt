@@ -1,4 +1,4 @@
--- Laws of the command at an offset: its operands, and the order of its refusals.
+-- Laws of the command at an offset: the order of its refusals.
 use Prim.Native.Nat.{ℕ, zero, suc, _+_, _-_, _*_, _≤_, _<_}
 use mathlib.Core.Path.{_≡_, refl}
 use mathlib.Core.Bool.{Bool, true, false, cond, not, _&&_, _||_, false≢true}
@@ -7,49 +7,14 @@ use native.Mathlib.Omega.{arith}
 use borrow.Author.Tests.{le-leb, lt-leb, leb-true, leb-false}
 use lib.Dec.{eqb, leb}
 use lib.ListN.{length, getD}
-use lib.Seq.{drop-cons}
 use Rattle.state.specs.Rejections.{unless, _then_, unknown-command, out-of-place, truncated}
 use Rattle.integers.proofs.Tests.{both}
 use Rattle.state.proofs.Tests.{unless-then, unless-zero}
 use Rattle.layout.specs.Answers.{lengthAnswer}
-use Rattle.layout.specs.Bytes.{fromBytes, unsignedAt}
 use Rattle.layout.specs.CommandTable.{commandSize, isCommand, onlyInSnapshot, opens, commandLength}
 use Rattle.layout.specs.declared.Length.the-variants as length-of
 use Rattle.decoding.specs.Decoding.{errorsFit, inPlace, commandCode, operands, decoded, decode}
 use Rattle.decoding.specs.declared.Command.the-variants as command-of
-
--- ---- operands of two, four and eight bytes
-pub two-bytes : (s : List ℕ) (at : ℕ) → at + 2 ≤ length s → unsignedAt s at 2 ≡ getD s at 0 + 256 * getD s (at + 1) 0
-unfolding fromBytes
-two-bytes s at h =
-    let e : at + 1 ≡ suc at = omega arith in
-    let a : at < length s = omega arith in
-    let b : suc at < length s = omega arith in
-    rw (e, drop-cons s at 0, drop-cons s (suc at) 0) (omega arith)
-
-pub four-bytes : (s : List ℕ) (at : ℕ) → at + 4 ≤ length s → unsignedAt s at 4 ≡ unsignedAt s at 2 + 65536 * unsignedAt s (at + 2) 2
-unfolding fromBytes
-four-bytes s at h =
-    let e : at + 2 ≡ suc (suc at) = omega arith in
-    let a : at < length s = omega arith in
-    let b : suc at < length s = omega arith in
-    let c : suc (suc at) < length s = omega arith in
-    let d : suc (suc (suc at)) < length s = omega arith in
-    rw (e, drop-cons s at 0, drop-cons s (suc at) 0, drop-cons s (suc (suc at)) 0, drop-cons s (suc (suc (suc at))) 0) (omega arith)
-
-pub eight-bytes : (s : List ℕ) (at : ℕ) → at + 8 ≤ length s → unsignedAt s at 8 ≡ unsignedAt s at 4 + 4294967296 * unsignedAt s (at + 4) 4
-unfolding fromBytes
-eight-bytes s at h =
-    let e : at + 4 ≡ suc (suc (suc (suc at))) = omega arith in
-    let l0 : at < length s = omega arith in
-    let l1 : suc at < length s = omega arith in
-    let l2 : suc (suc at) < length s = omega arith in
-    let l3 : suc (suc (suc at)) < length s = omega arith in
-    let l4 : suc (suc (suc (suc at))) < length s = omega arith in
-    let l5 : suc (suc (suc (suc (suc at)))) < length s = omega arith in
-    let l6 : suc (suc (suc (suc (suc (suc at))))) < length s = omega arith in
-    let l7 : suc (suc (suc (suc (suc (suc (suc at)))))) < length s = omega arith in
-    rw (e, drop-cons s at 0, drop-cons s (suc at) 0, drop-cons s (suc (suc at)) 0, drop-cons s (suc (suc (suc at))) 0, drop-cons s (suc (suc (suc (suc at)))) 0, drop-cons s (suc (suc (suc (suc (suc at))))) 0, drop-cons s (suc (suc (suc (suc (suc (suc at)))))) 0, drop-cons s (suc (suc (suc (suc (suc (suc (suc at))))))) 0) (omega arith)
 
 -- ---- the length of a command, as the table told it
 module _ (b n : ℕ) where

@@ -1,12 +1,12 @@
 // The command at an offset of a stream: document 01, "Commands" and "Refusals, in checking order".
-mod operands;
+mod reading;
 
 use layout::Length;
 use layout::command_length;
 use layout::only_in_snapshot;
 use layout::opens;
 use models::errors_are;
-use operands::operands;
+use reading::command_at;
 use state::OUT_OF_PLACE;
 use state::TRUNCATED;
 ghost use mathlib.Core.Path.{_≡_};
@@ -73,7 +73,7 @@ pub fn decode(s: &[u8], at: usize, active: bool, model: u8) -> Decoded
                 };
             }
             Decoded {
-                command: operands(s, at),
+                command: command_at(s, at),
                 next: at + n,
             }
         }

@@ -14,7 +14,7 @@ use Rattle.state.specs.States.{stateOf}
 use Rattle.state.specs.declared.State.{State}
 use Rattle.ets.specs.Steps.{afterReading, afterMissing}
 use Rattle.forecasts.specs.Forecasts.{maxHorizon, displayHorizon, forecastOf}
-use Rattle.snapshot.specs.Slices.{inPlaceCode}
+use Rattle.slices.specs.Slices.{inPlaceCode}
 use Rattle.traces.specs.Calls.{followed, cut, sliceOf, Call, Reading, Missing, Switch, Batch, Forecast, Forecasts, InPlaceReading, InPlaceMissing, InPlaceSwitch, InPlaceForecast, result, after}
 use Rattle.traces.specs.Operations.{standingOf, on-state}
 use Rattle.drift.specs.Exact.{Parameters, parametersOf, Exact, opened, exactReading, exactForecast, exactAfter, Expected, level-is, forecast-is, expected, startingFrom}

@@ -5,18 +5,6 @@ use state::Answer;
 use state::Outcome;
 use state::State;
 
-// The numbers of a state that a reading moves and is moved by; the season value is the one at the seasonal index.
-pub struct Numbers {
-    pub alpha: u32,
-    pub beta: u32,
-    pub gamma: u32,
-    pub phi: u32,
-    pub level: i64,
-    pub trend: i64,
-    pub season: i64,
-    pub count: u64,
-}
-
 // What a step is made of: the rounding rule (whether ties go to the even number), the gains, the level, the damped trend (document 01's d) and the season value that is due.
 pub struct Terms {
     pub even: bool,

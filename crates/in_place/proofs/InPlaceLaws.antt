@@ -18,8 +18,8 @@ use Rattle.ets.proofs.Kept.{reading-typed, reading-kept, missing-kept}
 use Rattle.layout.specs.Bytes.{AreBytes}
 use Rattle.layout.specs.Layout.{sizeOf, scoredIn, periodIn}
 use Rattle.snapshot.specs.Snapshots.{decoded}
-use Rattle.snapshot.specs.Slices.{spare, inPlaceCode}
-use Rattle.snapshot.proofs.Accepting.{one-snapshot}
+use Rattle.slices.specs.Slices.{spare, inPlaceCode}
+use Rattle.slices.proofs.SliceLaws.{one-snapshot}
 use Rattle.snapshot.proofs.Decoded.{accepted-passes}
 use Rattle.saving.specs.Encoding.{modelBytes, encoded}
 use Rattle.in_place.specs.InPlace.{roomCode, rejection, bytesAfter, numberAfter, inPlaceStepCode, inPlaceStepBytes, inPlaceResidual, inPlaceMissingCode, inPlaceMissingBytes, inPlaceSwitchCode, inPlaceSwitchBytes, inPlaceForecastCode, inPlaceForecast}

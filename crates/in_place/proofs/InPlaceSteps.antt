@@ -25,7 +25,7 @@ use Rattle.calendars.specs.Turns.{nextIndex}
 use Rattle.ets.specs.Steps.{dampedTrend, termsOf, residualOf, newLevel, newTrend, newSeason, seasonalBy, newSeasonal, squareAt, scoreAfter, afterReading, advanced, afterMissing, corrected, stepCode, missingCode}
 use Rattle.forecasts.specs.Forecasts.{seasonAt as seasonAhead}
 use Rattle.ets.specs.Updates.{numbersOf, corrections, update, advance, updateMissing}
-use Rattle.ets.specs.declared.Numbers.{Numbers}
+use Rattle.state.specs.declared.Numbers.{Numbers}
 use Rattle.ets.specs.declared.Update.{Update}
 use Rattle.ets.proofs.StepLaws.{step-facts}
 use Rattle.ets.proofs.UpdateLaws.{update-code, update-is, update-missing-is}
@@ -33,10 +33,11 @@ use Rattle.layout.specs.Bytes.{AreBytes}
 use Rattle.layout.specs.CommandTable.{scoreLength}
 use Rattle.layout.specs.Layout.{scoreAt, endAt, sizeOf, scoredIn, periodIn, scoreIn, seasonIn, indexIn, countIn}
 use Rattle.snapshot.specs.Snapshots.{openCode, openOffset, cellsAt, decoded}
-use Rattle.snapshot.specs.Slices.{spare, inPlaceCode, scoreValue, stateValue, numbersIn, checkedIn, notOpened, openedIn}
+use Rattle.slices.specs.Slices.{spare, inPlaceCode, scoreValue, stateValue, numbersIn, checkedIn, notOpened, openedIn}
 use Rattle.snapshot.specs.Facts.{Room}
-use Rattle.snapshot.specs.declared.Checked.{Checked}
-use Rattle.snapshot.proofs.Accepting.{accepted, accepted-size, accepted-room, one-snapshot}
+use Rattle.slices.specs.declared.Checked.{Checked}
+use Rattle.snapshot.proofs.Accepting.{accepted, accepted-size, accepted-room}
+use Rattle.slices.proofs.SliceLaws.{one-snapshot}
 use Rattle.snapshot.proofs.Decoded.{cell-read, cell-none, accepted-passes, length-decoded}
 use Rattle.saving.specs.Encoding.{modelBytes, encoded}
 use Rattle.in_place.specs.InPlace.{roomCode, rewriteCode, rejection, bytesAfter, numberAfter}

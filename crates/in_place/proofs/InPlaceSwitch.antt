@@ -11,8 +11,8 @@ use Rattle.state.specs.declared.State.{State}
 use Rattle.state.proofs.Passing.{passed}
 use Rattle.state.proofs.Switches.{checks-kept}
 use Rattle.snapshot.specs.Snapshots.{decoded}
-use Rattle.snapshot.specs.Slices.{inPlaceCode}
-use Rattle.snapshot.proofs.Accepting.{one-snapshot}
+use Rattle.slices.specs.Slices.{inPlaceCode}
+use Rattle.slices.proofs.SliceLaws.{one-snapshot}
 use Rattle.snapshot.proofs.Decoded.{accepted-passes}
 use Rattle.saving.specs.Encoding.{modelBytes, encoded}
 

@@ -14,9 +14,9 @@ use Rattle.state.specs.declared.Score.{Score}
 use Rattle.ets.specs.declared.Update.{Update}
 use Rattle.layout.specs.Layout.{levelAt, scoreAt, seasonAt, positionAt, scoredIn, seasonIn}
 use Rattle.snapshot.specs.Snapshots.{decoded}
-use Rattle.snapshot.specs.Slices.{inPlaceCode}
+use Rattle.slices.specs.Slices.{inPlaceCode}
 use Rattle.snapshot.specs.Facts.{Room}
-use Rattle.snapshot.specs.declared.Checked.{Checked}
+use Rattle.slices.specs.declared.Checked.{Checked}
 use Rattle.saving.specs.Encoding.{levelBytes, scoreBytes, seasonBytes, positionBytes, encoded}
 
 -- the season value of a horizon

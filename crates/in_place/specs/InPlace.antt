@@ -12,7 +12,7 @@ use Rattle.ets.specs.Steps.{stepCode, missingCode, residualOf, afterReading, af
 use Rattle.forecasts.specs.Forecasts.{forecastCode, forecastOf}
 use Rattle.layout.specs.Layout.{periodIn, sizeOf}
 use Rattle.snapshot.specs.Snapshots.{decoded}
-use Rattle.snapshot.specs.Slices.{inPlaceCode}
+use Rattle.slices.specs.Slices.{inPlaceCode}
 use Rattle.saving.specs.Encoding.{encoded}
 
 -- a call that rewrites the slice needs the room of a saved snapshot, which an old one may not leave (document 02, W-204)

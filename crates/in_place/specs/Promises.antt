@@ -14,7 +14,7 @@ use Rattle.forecasts.specs.Forecasts.{forecastCode, forecastOf}
 use Rattle.layout.specs.Bytes.{AreBytes}
 use Rattle.layout.specs.Layout.{scoredIn}
 use Rattle.snapshot.specs.Snapshots.{decoded}
-use Rattle.snapshot.specs.Slices.{inPlaceCode}
+use Rattle.slices.specs.Slices.{inPlaceCode}
 use Rattle.saving.specs.Encoding.{encoded}
 use Rattle.round_trips.specs.Promises.{upgraded}
 use Rattle.in_place.specs.InPlace.{roomCode, inPlaceStepCode, inPlaceStepBytes, inPlaceResidual, inPlaceMissingCode, inPlaceMissingBytes, inPlaceSwitchCode, inPlaceSwitchBytes, inPlaceForecastCode, inPlaceForecast}

@@ -1,4 +1,5 @@
 pub mod Difference
 pub mod Bounds
 pub mod Tests
+pub mod Signed
 pub mod Snoc

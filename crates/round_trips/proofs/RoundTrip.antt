@@ -32,11 +32,13 @@ use Rattle.layout.specs.CommandTable.{opener, modelLength, levelLength, scoreLe
 use Rattle.layout.specs.Layout.{modelAt, levelAt, scoreAt, seasonAt, positionAt, endAt, sizeOf, outsideIn, scoredIn, modelIn, periodIn, alphaIn, betaIn, gammaIn, phiIn, levelIn, trendIn, scoreIn, seasonIn, indexIn, countIn}
 use Rattle.snapshot.specs.Snapshots.{openCode, openOffset, cellsAt, decoded, read, restOf}
 use Rattle.snapshot.specs.Promises.{oldForm}
-use Rattle.snapshot.specs.Slices.{inPlaceCode}
+use Rattle.slices.specs.Slices.{inPlaceCode}
 use Rattle.snapshot.specs.declared.reading.Scanned.{Scanned}
-use Rattle.snapshot.proofs.Accepting.{Due, Season, Accepted, accepted, accepts, accepted-size, period-most, one-snapshot, nothing-after}
+use Rattle.snapshot.proofs.Accepting.{Due, Season, Accepted, accepted, accepts, accepted-size, period-most}
+use Rattle.slices.proofs.SliceLaws.{one-snapshot, nothing-after}
 use Rattle.snapshot.proofs.OldForms.{old-forms}
-use Rattle.snapshot.proofs.Decoded.{length-cells, cell-read, cell-none, accepted-passes}
+use Rattle.snapshot.proofs.Decoded.{cell-read, cell-none, accepted-passes}
+use Rattle.fields.proofs.Cells.{length-cells}
 use Rattle.saving.specs.Encoding.{toBytes, signedBytes, modelBytes, levelBytes, scoreBytes, seasonBytes, seasonsBytes, positionBytes, encoded}
 use Rattle.saving.specs.Saving.{save, saveCode, savedBytes}
 use Rattle.round_trips.specs.Promises.{upgraded, ReadsSaved, SavesRead, Reopens}

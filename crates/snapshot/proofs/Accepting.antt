@@ -19,7 +19,6 @@ use Rattle.state.proofs.Tests.{unless-zero, then-zero}
 use Rattle.layout.specs.CommandTable.{commandSize, isCommand, opener, modelLength, levelLength, scoreLength, seasonLength, positionLength}
 use Rattle.layout.specs.Layout.{modelAt, levelAt, scoreAt, seasonAt, positionAt, endAt, outsideIn, scoredIn, modelIn, periodIn, alphaIn, betaIn, gammaIn, phiIn, levelIn, trendIn, scoreIn, seasonIndexIn, seasonIn, indexIn, countIn}
 use Rattle.snapshot.specs.Snapshots.{dueCode, modelCode, levelCode, scoreCode, seasonCode, positionCode, finished, scanPosition, scanSeasons, scan, openCode, openOffset}
-use Rattle.snapshot.specs.Slices.{spare, inPlaceCode}
 use Rattle.snapshot.specs.Facts.{Room}
 use Rattle.snapshot.specs.declared.reading.Scanned.{Scanned}
 
@@ -203,10 +202,6 @@ index-most : (m p : ℕ) → indexOk m p ≡ true → p ≤ m
 index-most zero p h = omega (arith, eqb-true p 0 h)
 index-most (suc m) p h = omega (arith, ltb-true p (suc m) (rw (eqb·suc-zero m) at h))
 
--- the command 15 lies in it too
-pub room-score : (s : List ℕ) (t : Bool) (m : ℕ) → endAt t m ≤ length s → t ≡ true → scoreAt + scoreLength ≤ length s
-room-score s t m r e = let z : endAt true m ≤ length s = rw e at r in omega arith
-
 pub accepted-room : (s : List ℕ) → openCode s ≡ 0 → Room (scoredIn s) s (periodIn s) (indexIn s (periodIn s))
 accepted-room s h =
     let a = accepted s h in
@@ -215,18 +210,3 @@ accepted-room s h =
       period = period-most (a .model);
       index = index-most (periodIn s) (indexIn s (periodIn s)) (both (indexOk (periodIn s) (indexIn s (periodIn s))) (countOk (countIn s (periodIn s))) (a .position .ok) .0);
     }
-
--- ---- the slice holds one snapshot, and after it no more than may be there
-pub one-snapshot : (d : List ℕ) → inPlaceCode d ≡ 0 → (openCode d ≡ 0) × (length d - openOffset d ≤ spare (scoredIn d))
-unfolding inPlaceCode
-one-snapshot d h =
-    let t = leb (length d - openOffset d) (spare (scoredIn d)) in
-    let c = then-zero (openCode d) (unless t out-of-place) h in
-    (c .0, leb-true (length d - openOffset d) (spare (scoredIn d)) (unless-zero t 2 (c .1)))
-
--- nothing at all after one with command 15
-pub nothing-after : (d : List ℕ) → inPlaceCode d ≡ 0 → scoredIn d ≡ true → openOffset d ≡ length d
-nothing-after d h e =
-    let o = one-snapshot d h in
-    let l : length d - openOffset d ≤ 0 = rw e at (o .1) in
-    omega (arith, accepted-size d (o .0) .1)

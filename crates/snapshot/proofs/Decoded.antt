@@ -9,23 +9,19 @@ use native.Mathlib.Omega.{arith}
 use borrow.Author.Tests.{ltb-true, ltb-false, ne-eqb}
 use lib.Dec.{ltb}
 use lib.IntN.{pos}
-use lib.ListN.{length, length-set, getD-replicate, getD}
+use lib.ListN.{length, getD-replicate, getD}
 use lib.Seq.{getD-set-same, getD-set-other}
 use Rattle.state.specs.Fixed.{inRange, isZero}
 use Rattle.state.specs.States.{check, cellOk}
 use Rattle.integers.proofs.Tests.{both, allBelow-all}
 use Rattle.state.proofs.Passing.{passes, no-state}
 use Rattle.layout.specs.Layout.{periodIn, seasonIn}
+pub use Rattle.fields.proofs.Cells.{length-cells}
 use Rattle.snapshot.specs.Snapshots.{openCode, cellsAt, decoded, read}
 use Rattle.snapshot.specs.Promises.{RejectedState}
 use Rattle.snapshot.proofs.Accepting.{Accepted, accepted, period-most}
 
 -- ---- the season cells that were read
-pub length-cells : (s : List ℕ) (n : ℕ) → length (cellsAt s n) ≡ 48
-unfolding cellsAt
-length-cells s zero = refl
-length-cells s (suc n) = length-set (cellsAt s n) n (seasonIn s n) ∙ length-cells s n
-
 pub cell-read : (s : List ℕ) (n k : ℕ) → n ≤ 48 → k < n → getD (cellsAt s n) k (pos 0) ≡ seasonIn s k
 unfolding cellsAt
 cell-read s zero k h l = absurd (not-suc-le-zero l)

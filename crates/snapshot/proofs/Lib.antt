@@ -2,5 +2,4 @@ pub mod Accepting
 pub mod ByteLaws
 pub mod Decoded
 pub mod OffsetLaws
-pub mod Signed
 pub mod OldForms

@@ -1,4 +1,3 @@
 pub mod Snapshots
-pub mod Slices
 pub mod Facts
 pub mod Promises

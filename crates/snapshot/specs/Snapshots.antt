@@ -3,16 +3,15 @@ use Prim.Native.Nat.{ℕ, zero, suc, _-_}
 use mathlib.Core.Bool.{cond, _&&_}
 use mathlib.Core.List.{List}
 use lib.Dec.{eqb, ltb, leb}
-use lib.IntN.{ℤ, pos}
-use lib.ListN.{length, drop, getD, set, replicate}
+use lib.ListN.{length, drop, getD}
 use Rattle.state.specs.Rejections.{unless, _then_, outcome, unknown-command, out-of-place, truncated, bad-model, bad-period, wrong-index, bad-value, bad-position, bad-score, accepting}
 use Rattle.state.specs.Fixed.{inRange}
 use Rattle.models.specs.Models.{validModel, periodOk}
 use Rattle.state.specs.Scores.{scoreOk}
 use Rattle.state.specs.States.{parametersCode, trendOk, indexOk, countOk, noState}
-use Rattle.state.specs.declared.State.{State}
 use Rattle.layout.specs.CommandTable.{commandSize, isCommand, opener}
 use Rattle.layout.specs.Layout.{modelAt, levelAt, scoreAt, seasonAt, positionAt, endAt, outsideIn, scoredIn, modelIn, periodIn, alphaIn, betaIn, gammaIn, phiIn, levelIn, trendIn, scoreIn, seasonIndexIn, seasonIn, indexIn, countIn}
+unfoldable pub use Rattle.fields.specs.Fields.{cellsAt, decoded}
 use Rattle.snapshot.specs.declared.Opened.{Opened}
 use Rattle.snapshot.specs.declared.reading.Scanned.{Scanned}
 
@@ -82,30 +81,6 @@ openCode s = scan s .code
 
 abbrev pub openOffset : List ℕ → ℕ
 openOffset s = scan s .offset
-
--- the season cells: the values of n places, 0 from there on
-unfoldable pub cellsAt : List ℕ → ℕ → List ℤ
-cellsAt s zero = replicate 48 (pos 0)
-cellsAt s (suc n) = set (cellsAt s n) n (seasonIn s n)
-
--- the state that a snapshot holds
-unfoldable pub decoded : List ℕ → State
-decoded s =
-    record {
-      outside = outsideIn s;
-      model = modelIn s;
-      period = periodIn s;
-      alpha = alphaIn s;
-      beta = betaIn s;
-      gamma = gammaIn s;
-      phi = phiIn s;
-      level = levelIn s;
-      trend = trendIn s;
-      seasonal = cellsAt s (periodIn s);
-      index = indexIn s (periodIn s);
-      count = countIn s (periodIn s);
-      score = scoreIn s;
-    }
 
 -- the call: the state, or the rejection
 unfoldable pub read : List ℕ → Opened

@@ -1,13 +1,10 @@
 // Reading a snapshot: document 01, "Commands". A snapshot is the paper's group.
-mod bytes;
-mod fields;
 pub mod promises;
 mod reading;
-pub mod slices;
 
-use ets::Numbers;
 use fields::state_at;
-use reading::scan;
+pub use reading::Scanned;
+pub use reading::scan;
 use state::Outcome;
 use state::State;
 use state::no_state;
@@ -18,18 +15,6 @@ ghost use Rattle.snapshot.specs.Snapshots.{openCode, read, restOf};
 pub struct Opened {
     pub outcome: Outcome,
     pub state: State,
-}
-
-// What a call on a lent slice goes by: the slice's rejection or 0, and then the numbers of its snapshot, the season value being the one due.
-pub struct Checked {
-    pub code: u8,
-    // Whether the snapshot has command 15.
-    pub scored: bool,
-    // The rounding rule: whether ties go to the even number, else up.
-    pub even: bool,
-    pub period: u8,
-    pub index: u8,
-    pub numbers: Numbers,
 }
 
 // The snapshot at the front of a stream.

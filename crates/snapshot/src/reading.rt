@@ -1,9 +1,6 @@
 // Reading the commands of a snapshot, each finished before the next is looked at.
-use super::bytes::read_i64;
-use super::bytes::read_le;
-use super::bytes::read_u32;
-use super::fields::is_outside;
-use super::fields::is_scored;
+use fields::is_outside;
+use fields::is_scored;
 use layout::ALPHA_AT;
 use layout::BETA_AT;
 use layout::GAMMA_AT;
@@ -25,6 +22,9 @@ use layout::opener;
 use layout::season_at;
 use models::model_ok;
 use models::period_ok;
+use operands::read_i64;
+use operands::read_u32;
+use operands::read_u64;
 use ranges::count_ok;
 use ranges::in_range;
 use ranges::index_ok;
@@ -49,6 +49,7 @@ ghost use lib.ListN.{length};
 ghost use Rattle.state.specs.Fixed.{inRange};
 ghost use Rattle.state.specs.Scores.{scoreOk};
 ghost use Rattle.state.specs.States.{parametersCode, trendOk};
+ghost use Rattle.layout.specs.Bytes.{unsignedAt, signedAt};
 ghost use Rattle.layout.specs.CommandTable.{isCommand, modelLength, levelLength, scoreLength};
 ghost use Rattle.layout.specs.Layout.{levelAt, scoreAt, seasonAt, scoredIn, modelIn, alphaIn, betaIn, gammaIn, phiIn, levelIn, trendIn, scoreIn};
 ghost use Rattle.snapshot.specs.Snapshots.{dueCode, modelCode, levelCode, scoreCode, seasonCode, positionCode, scanPosition, scanSeasons, scan};
@@ -79,6 +80,33 @@ fn due(s: &[u8], at: usize, first: u8) -> u8
     unless(e.0 <= left, TRUNCATED)
 }
 
+// An operand that is there: a part of its own length lacks no byte, so that no test is left in the compiled code.
+fn word_at(s: &[u8], at: usize) -> u64
+    requires { ⌜ at + 8 ≤ length (now s) ⌝ }
+    ensures { λ r. ⌜ r ≡ unsignedAt (now (s .entry)) at 8 ⌝ }
+{
+    let end = at + 8;
+    read_u64(&s[at..end], 0)
+}
+
+// And a signed one.
+fn value_at(s: &[u8], at: usize) -> i64
+    requires { ⌜ at + 8 ≤ length (now s) ⌝ }
+    ensures { λ r. ⌜ r ≡ signedAt (now (s .entry)) at ⌝ }
+{
+    let end = at + 8;
+    read_i64(&s[at..end], 0)
+}
+
+// And one of 32 bits.
+fn parameter_at(s: &[u8], at: usize) -> u32
+    requires { ⌜ at + 4 ≤ length (now s) ⌝ }
+    ensures { λ r. ⌜ r ≡ unsignedAt (now (s .entry)) at 4 ⌝ }
+{
+    let end = at + 4;
+    read_u32(&s[at..end], 0)
+}
+
 fn parameters_at(s: &[u8], outside: bool) -> u8
     requires { ⌜ modelLength ≤ length (now s) ⌝ }
     ensures { λ r. ⌜ r ≡ parametersCode outside (modelIn (now (s .entry))) (alphaIn (now (s .entry))) (betaIn (now (s .entry))) (gammaIn (now (s .entry))) (phiIn (now (s .entry))) ⌝ }
@@ -86,10 +114,10 @@ fn parameters_at(s: &[u8], outside: bool) -> u8
     parameters_code(
         outside,
         s[MODEL_BYTE_AT],
-        read_u32(s, ALPHA_AT),
-        read_u32(s, BETA_AT),
-        read_u32(s, GAMMA_AT),
-        read_u32(s, PHI_AT),
+        parameter_at(s, ALPHA_AT),
+        parameter_at(s, BETA_AT),
+        parameter_at(s, GAMMA_AT),
+        parameter_at(s, PHI_AT),
     )
 }
 
@@ -111,7 +139,7 @@ fn values_at(s: &[u8]) -> bool
     requires { ⌜ levelAt + levelLength ≤ length (now s) ⌝ }
     ensures { λ r. ⌜ r ≡ (inRange (levelIn (now (s .entry))) && trendOk (modelIn (now (s .entry))) (trendIn (now (s .entry)))) ⌝ }
 {
-    in_range(read_i64(s, LEVEL_VALUE_AT)) & trend_ok(s[MODEL_BYTE_AT], read_i64(s, TREND_VALUE_AT))
+    in_range(value_at(s, LEVEL_VALUE_AT)) & trend_ok(s[MODEL_BYTE_AT], value_at(s, TREND_VALUE_AT))
 }
 
 fn level_code(s: &[u8]) -> u8
@@ -146,7 +174,7 @@ fn season_code(s: &[u8], scored: bool, k: u8) -> u8
     if s[at + 1] != k {
         return WRONG_INDEX;
     }
-    unless(in_range(read_i64(s, at + 2)), BAD_VALUE)
+    unless(in_range(value_at(s, at + 2)), BAD_VALUE)
 }
 
 // Check 17: the score of an old snapshot, all 0, passes.
@@ -159,9 +187,9 @@ fn score_at_ok(s: &[u8], scored: bool, count: u64) -> bool
     }
     words_ok(
         count,
-        read_le(s, READINGS_AT, 8),
-        read_le(s, SUM_HIGH_AT, 8),
-        read_le(s, SUM_LOW_AT, 8),
+        word_at(s, READINGS_AT),
+        word_at(s, SUM_HIGH_AT),
+        word_at(s, SUM_LOW_AT),
     )
 }
 
@@ -173,7 +201,7 @@ fn position_code(s: &[u8], scored: bool, at: usize, m: u8) -> u8
     if code != 0 {
         return code;
     }
-    let count = read_le(s, at + 2, 8);
+    let count = word_at(s, at + 2);
     let position = unless(index_ok(m, s[at + 1]) & count_ok(count), BAD_POSITION);
     first(position, unless(score_at_ok(s, scored, count), BAD_SCORE))
 }

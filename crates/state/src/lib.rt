@@ -85,6 +85,18 @@ pub struct State {
     pub score: Score,
 }
 
+// The numbers of a state that a reading moves and is moved by; the season value is the one at the seasonal index.
+pub struct Numbers {
+    pub alpha: u32,
+    pub beta: u32,
+    pub gamma: u32,
+    pub phi: u32,
+    pub level: i64,
+    pub trend: i64,
+    pub season: i64,
+    pub count: u64,
+}
+
 // No reading yet.
 pub fn no_score() -> Score
     ensures { λ r. ⌜ r ≡ noScore ⌝ }

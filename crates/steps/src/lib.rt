@@ -1,11 +1,11 @@
 // A reading and a missing reading on a state by value.
 use checks::check;
 use ets::Missed;
-use ets::Numbers;
 use ets::Stepped;
 use ets::Update;
 use models::ties_to_even;
 use state::Answer;
+use state::Numbers;
 use state::Outcome;
 use state::Score;
 use state::State;

@@ -23,7 +23,7 @@ use Rattle.ets.proofs.CalendarLaws.{reading-typed-by, reading-kept-by, missing-
 use Rattle.layout.specs.Bytes.{AreBytes}
 use Rattle.layout.specs.Layout.{scoredIn}
 use Rattle.snapshot.specs.Snapshots.{decoded}
-use Rattle.snapshot.specs.Slices.{inPlaceCode}
+use Rattle.slices.specs.Slices.{inPlaceCode}
 use Rattle.saving.specs.Encoding.{encoded}
 use Rattle.in_place.specs.InPlace.{roomCode, rewriteCode, rejection, bytesAfter, inPlaceStepCode, inPlaceStepBytes, inPlaceMissingCode, inPlaceMissingBytes, inPlaceSwitchCode, inPlaceSwitchBytes, inPlaceForecastCode, inPlaceForecast}
 use Rattle.in_place.proofs.InPlaceLaws.{in-place-encoded, room-encoded, in-place-is-direct}

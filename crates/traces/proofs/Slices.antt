@@ -11,8 +11,9 @@ use Rattle.state.specs.States.{Typed, check}
 use Rattle.state.specs.declared.State.{State}
 use Rattle.layout.specs.Layout.{endAt, scoredIn, periodIn}
 use Rattle.snapshot.specs.Snapshots.{openOffset, decoded}
-use Rattle.snapshot.specs.Slices.{inPlaceCode}
-use Rattle.snapshot.proofs.Accepting.{accepted-size, one-snapshot, nothing-after}
+use Rattle.slices.specs.Slices.{inPlaceCode}
+use Rattle.snapshot.proofs.Accepting.{accepted-size}
+use Rattle.slices.proofs.SliceLaws.{one-snapshot, nothing-after}
 use Rattle.saving.specs.Encoding.{toBytes, modelBytes, levelBytes, scoreBytes, encoded}
 use Rattle.saving.proofs.Lengths.{length-encoded}
 use Rattle.round_trips.proofs.RoundTrip.{read-back}

@@ -1,5 +1,4 @@
 // What rejects a step on numbers, and the update that a rejection gives.
-use ets::Numbers;
 use ets::Update;
 use models::ONE;
 use ranges::count_ok;
@@ -11,6 +10,7 @@ use state::BAD_READING;
 use state::BAD_VALUE;
 use state::COUNT_FULL;
 use state::MAX_COUNT;
+use state::Numbers;
 use state::first;
 use state::unless;
 ghost use mathlib.Core.Path.{_≡_};

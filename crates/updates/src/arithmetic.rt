@@ -1,10 +1,10 @@
 // The arithmetic of one step, on numbers within the bounds of a state that passed its checks.
-use ets::Numbers;
 use ets::Terms;
 use ets::Update;
 use ranges::in_range;
 use rounding::round;
 use state::LEAVES_RANGE;
+use state::Numbers;
 use state::Score;
 use state::first;
 use state::unless;

@@ -1,7 +1,7 @@
 use mathlib.Core.Path.{_≡_, refl, sym, _∙_}
 use lib.ListN.{length}
 use borrow.Author.Tests.{ne-eqb}
-use Rattle.snapshot.specs.Slices.{inPlaceCode}
+use Rattle.slices.specs.Slices.{inPlaceCode}
 use Rattle.bench_calls.proofs.Opened.{code-is, state-is}
 use Rattle.relative_errors.specs.Relative.{relativeVariance, relativeCells}
 use Rattle.snapshot.specs.Snapshots.{decoded}

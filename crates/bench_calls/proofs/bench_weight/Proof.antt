@@ -1,6 +1,6 @@
 use mathlib.Core.Path.{_≡_, refl, sym, _∙_}
 use borrow.Author.Tests.{ne-eqb}
-use Rattle.snapshot.specs.Slices.{inPlaceCode}
+use Rattle.slices.specs.Slices.{inPlaceCode}
 use Rattle.bench_calls.proofs.Opened.{code-is, state-is}
 use Rattle.weights.specs.Weights.{weight}
 use Rattle.snapshot.specs.Snapshots.{decoded}

@@ -34,14 +34,11 @@ returns-3 c =
     let k = table-is o in
     sym (decode-short _ _ _ _ (o .before .before .before .before .before .before .if1 .left) (k .0) (due (c .before)) (rw (← (k .1)) (c .if3 .taken)))
 
-operands-requires : tie.Need-operands-requires
-operands-requires c κs = (search needs, rw (← (table-is (c .before .before) .1)) (omega arith))
-
 returns-4 : tie.Need-returns-4
 returns-4 c =
     let o = c .before .before .before in
     let k = table-is o in
-    rw (k .1, c .operands .ensures) (sym (decode-whole _ _ _ _ (o .before .before .before .before .before .before .if1 .left) (k .0) (due (c .before .before)) (rw (← (k .1)) (c .before .if3 .left))))
+    rw (k .1, c .command-at .ensures) (sym (decode-whole _ _ _ _ (o .before .before .before .before .before .before .if1 .left) (k .0) (due (c .before .before)) (rw (← (k .1)) (c .before .if3 .left))))
 
 returns-5 : tie.Need-returns-5
 returns-5 c =
@@ -60,7 +57,7 @@ decode-spec =
     returns-2
     (λ c. search needs)
     returns-3
-    operands-requires
+    (λ c κs. search needs)
     (λ c. search needs)
     (λ c. search needs)
     returns-4

@@ -12,10 +12,10 @@ use Rattle.models.specs.Models.{tiesToEven}
 use Rattle.state.specs.declared.State.{State}
 use Rattle.state.proofs.Answers.{answer-rejected, answer-accepted}
 use Rattle.forecasts.specs.Forecasts.{trendLine, forecastCode, forecastFromCode, forecastFrom, forecastOf}
-use Rattle.ets.specs.declared.Numbers.{Numbers}
+use Rattle.state.specs.declared.Numbers.{Numbers}
 use Rattle.forecasts.proofs.ForecastLaws.{from-code, forecast-ready}
 use Rattle.snapshot.specs.Snapshots.{openCode, decoded}
-use Rattle.snapshot.proofs.Accepting.{one-snapshot}
+use Rattle.slices.proofs.SliceLaws.{one-snapshot}
 use Rattle.in_place.specs.InPlace.{inPlaceForecastCode, inPlaceForecast}
 use Rattle.in_place.specs.Facts.{aheadIn, Held, Found}
 use Rattle.in_place.proofs.InPlaceSteps.{room-in, aheadValue, ahead-within, ahead-is, found, holds, not-read, is-read}

@@ -10,7 +10,7 @@ use Rattle.models.specs.Models.{tiesToEven}
 use Rattle.state.specs.declared.State.{State}
 use Rattle.ets.specs.Steps.{missingCode, afterMissing}
 use Rattle.ets.specs.Updates.{numbersOf, updateMissing}
-use Rattle.ets.specs.declared.Numbers.{Numbers}
+use Rattle.state.specs.declared.Numbers.{Numbers}
 use Rattle.ets.specs.declared.Update.{Update}
 use Rattle.ets.proofs.StepLaws.{missing-facts}
 use Rattle.ets.proofs.UpdateLaws.{update-missing-code}

@@ -12,7 +12,7 @@ use mir.ValLaws.{toZ-ofZ}
 use borrow.Author.Tests.{eqb-false, le-leb}
 use Rattle.layout.specs.CommandTable.{seasonLength}
 use Rattle.layout.specs.Layout.{seasonAt, scoredIn, seasonIn}
-use Rattle.snapshot.specs.Slices.{seasonValue}
+use Rattle.slices.specs.Slices.{seasonValue}
 use Rattle.state.specs.declared.Answer.the-variants as answer-of
 use borrow.Author.Needs.{needs}
 use Rattle.in_place.proofs.season_ahead.Statement.{statement}

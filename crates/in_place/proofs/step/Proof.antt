@@ -13,7 +13,7 @@ use Rattle.state.specs.declared.Score.{Score}
 use Rattle.state.specs.declared.State.{State}
 use Rattle.ets.specs.Steps.{stepCode, afterReading, residualOf, squareAt, scoreAfter}
 use Rattle.ets.specs.Updates.{numbersOf, update, updateScore}
-use Rattle.ets.specs.declared.Numbers.{Numbers}
+use Rattle.state.specs.declared.Numbers.{Numbers}
 use Rattle.ets.specs.declared.Update.{Update}
 use Rattle.ets.proofs.ScoreLaws.{update-score-is}
 use Rattle.snapshot.specs.Snapshots.{decoded}

@@ -8,7 +8,7 @@ use Prim.Native.Nat.{ℕ, _<_}
 use Rattle.state.specs.States.{check}
 use Rattle.state.specs.Switching.{switched}
 use Rattle.state.specs.declared.State.{State}
-use Rattle.snapshot.specs.Slices.{inPlaceCode}
+use Rattle.slices.specs.Slices.{inPlaceCode}
 use Rattle.snapshot.specs.Snapshots.{decoded}
 use Rattle.in_place.specs.InPlace.{rewriteCode, rejection, inPlaceSwitchCode, inPlaceSwitchBytes}
 use Rattle.in_place.proofs.InPlaceSteps.{found, holds, rewrite-is, rewrite-facts, unopened, opened, rejected, accepted-call}

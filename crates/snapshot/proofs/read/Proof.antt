@@ -1,9 +1,8 @@
 -- `snapshot::read` meets its contract.
-use mathlib.Core.Path.{sym, ap, _∙_}
+use mathlib.Core.Path.{ap}
 use borrow.Author.Tests.{eq-eqb, ne-eqb}
 use Rattle.snapshot.specs.Snapshots.{read}
 use Rattle.snapshot.specs.declared.reading.Scanned.{Scanned}
-use Rattle.snapshot.proofs.Accepting.{accepted-room}
 use borrow.Author.Needs.{needs}
 use Rattle.snapshot.proofs.read.Statement.{statement}
 use Rattle.snapshot.proofs.read.Tie as tie
@@ -14,9 +13,6 @@ returns c =
     let e = ap (λ (r : Scanned). r .code) (c .before .before .scan .ensures) in
     rw (c .no-state .ensures, ← e, ne-eqb _ _ (c .before .if1 .taken))
 
-state-at-requires : tie.Need-state-at-requires
-state-at-requires c κs = let r = accepted-room _ (sym (ap (λ (r : Scanned). r .code) (c .before .scan .ensures)) ∙ c .if1 .left) in (r .period, r .size)
-
 returns-2 : tie.Need-returns-2
 unfolding read
 returns-2 c =
@@ -25,4 +21,4 @@ returns-2 c =
 
 pub read-spec : {M : Type 1} → statement M
 read-spec =
-    tie.close (tie.spec (λ c κs. search needs) (λ c κs. search needs) returns state-at-requires returns-2)
+    tie.close (tie.spec (λ c κs. search needs) (λ c κs. search needs) returns (λ c κs. search needs) returns-2)

@@ -6,7 +6,7 @@ use Rattle.snapshot.proofs.reading.parameters_at.Tie as tie
 returns : tie.Need-returns
 returns c =
     let u = c .before .before in
-    rw (← (u .before .before .read-u32 .ensures), ← (u .before .read-u322 .ensures), ← (u .read-u323 .ensures), ← (c .before .read-u324 .ensures)) (c .parameters-code .ensures)
+    rw (← (u .before .before .parameter-at .ensures), ← (u .before .parameter-at2 .ensures), ← (u .parameter-at3 .ensures), ← (c .before .parameter-at4 .ensures)) (c .parameters-code .ensures)
 
 pub parameters-at-spec : {M : Type 1} → statement M
 parameters-at-spec =

@@ -2,7 +2,6 @@
 use Prim.Native.Nat.{ℕ, _+_, _≤_}
 use mathlib.Core.Path.{_≡_, refl, sym, ap, _∙_}
 use native.Mathlib.Omega.{arith}
-use lib.Dec.{lit≤}
 use lib.ListN.{length}
 use borrow.Author.Tests.{eq-eqb, ne-eqb}
 use Rattle.layout.specs.CommandTable.{isCommand, commandSize, positionLength}
@@ -30,8 +29,8 @@ returns c =
     let p = c .before .before .before .pre in
     rw (← (p .0), ← (p .2), ← (c .before .due .ensures), ne-eqb _ _ (c .if1 .taken))
 
-add-read-le : tie.Need-add-read-le
-add-read-le c =
+add-word-at : tie.Need-add-word-at
+add-word-at c =
     let a = c .before .before .before in
     at-fits (a .args .scored) (a .args .m) 2 (a .pre .2) (a .fits .m .fits) (omega arith)
 
@@ -40,8 +39,8 @@ add-index-ok c =
     let a = c .before .before .before .before in
     at-fits (a .args .scored) (a .args .m) 1 (a .pre .2) (a .fits .m .fits) (omega arith)
 
-read-le-requires : tie.Need-read-le-requires
-read-le-requires c κs = (lit≤ tt, omega (arith, room c))
+word-at-requires : tie.Need-word-at-requires
+word-at-requires c κs = omega (arith, room c)
 
 shared-slice-read-index-ok : tie.Need-shared-slice-read-index-ok
 shared-slice-read-index-ok c = omega (arith, room (c .before .before))
@@ -59,10 +58,10 @@ returns-2 c =
     let i = r .before in
     let a = i .before .before .before .args in
     let p = i .before .before .before .pre in
-    let n : countIn (a .s .now) (a .m) ≡ r .read-le .result = rw (← (p .0), ← (p .2)) (sym (r .read-le .ensures .0)) in
+    let n : countIn (a .s .now) (a .m) ≡ r .word-at .result = rw (← (p .0), ← (p .2)) (sym (r .word-at .ensures)) in
     let e : scoreOk (countIn (a .s .now) (a .m)) (scoreIn (a .s .now)) ≡ k .score-at-ok .result = ap (λ (count : ℕ). scoreOk count (scoreIn (a .s .now))) n ∙ sym (k .score-at-ok .ensures) in
     rw (e, ← (p .0), ← (p .2), ← (i .before .due .ensures), eq-eqb _ _ (i .if1 .left))
-    (rw (← (r .read-le .ensures .0), ← (x .index-ok .ensures), ← (q .before .count-ok .ensures), ← (q .unless .ensures), ← (c .before .unless2 .ensures)) (c .first .ensures))
+    (rw (← (r .word-at .ensures), ← (x .index-ok .ensures), ← (q .before .count-ok .ensures), ← (q .unless .ensures), ← (c .before .unless2 .ensures)) (c .first .ensures))
 
 pub position-code-spec : {M : Type 1} → statement M
 position-code-spec =
@@ -70,8 +69,8 @@ position-code-spec =
     (tie.spec
     due-requires
     returns
-    add-read-le
-    read-le-requires
+    add-word-at
+    word-at-requires
     add-index-ok
     shared-slice-read-index-ok
     (λ c κs. search needs)

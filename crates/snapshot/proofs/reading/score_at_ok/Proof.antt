@@ -2,7 +2,6 @@
 use Prim.Native.Nat.{_+_, _≤_}
 use mathlib.Core.Path.{sym, _∙_}
 use native.Mathlib.Omega.{arith}
-use lib.Dec.{lit≤}
 use lib.ListN.{length}
 use borrow.Author.Tests.{not-true, not-false, le-leb}
 use Rattle.state.specs.Scores.{sumOf, sumOk}
@@ -19,14 +18,14 @@ returns c = let s = c .before .before in rw (sym (s .pre .0) ∙ not-true _ (c .
 room : (c : tie.Else1) → scoreAt + scoreLength ≤ length (c .before .before .args .s .now)
 room c = c .before .before .pre .1 (not-false _ (c .if1 .left))
 
-read-le-requires : tie.Need-read-le-requires
-read-le-requires c κs = (lit≤ tt, omega (arith, room c))
+word-at-requires : tie.Need-word-at-requires
+word-at-requires c κs = omega (arith, room c)
 
-read-le-requires-2 : tie.Need-read-le-requires-2
-read-le-requires-2 c κs = (lit≤ tt, omega (arith, room (c .before)))
+word-at-requires-2 : tie.Need-word-at-requires-2
+word-at-requires-2 c κs = omega (arith, room (c .before))
 
-read-le-requires-3 : tie.Need-read-le-requires-3
-read-le-requires-3 c κs = (lit≤ tt, omega (arith, room (c .before .before)))
+word-at-requires-3 : tie.Need-word-at-requires-3
+word-at-requires-3 c κs = omega (arith, room (c .before .before))
 
 returns-2 : tie.Need-returns-2
 returns-2 c =
@@ -34,9 +33,9 @@ returns-2 c =
     let h = l .before in
     let r = h .before in
     let i = r .before in
-    rw (sym (i .before .before .pre .0) ∙ not-false _ (i .if1 .left), ← (l .read-le3 .ensures .0), ← (h .read-le2 .ensures .0), ← (r .read-le .ensures .0)) (c .words-ok .ensures)
+    rw (sym (i .before .before .pre .0) ∙ not-false _ (i .if1 .left), ← (l .word-at3 .ensures), ← (h .word-at2 .ensures), ← (r .word-at .ensures)) (c .words-ok .ensures)
 
 pub score-at-ok-spec : {M : Type 1} → statement M
 score-at-ok-spec =
     tie.close
-    (tie.spec returns read-le-requires read-le-requires-2 read-le-requires-3 (λ c κs. search needs) returns-2)
+    (tie.spec returns word-at-requires word-at-requires-2 word-at-requires-3 (λ c κs. search needs) returns-2)

@@ -33,8 +33,8 @@ add-if2 c =
     let a = x .before .before in
     at-fits (a .args .scored) (a .args .k) 1 (x .season-at .ensures) (a .fits .k .fits) (omega arith)
 
-add-read-i64 : tie.Need-add-read-i64
-add-read-i64 c =
+add-value-at : tie.Need-add-value-at
+add-value-at c =
     let x = c .before .before .before .before in
     let a = x .before .before in
     at-fits (a .args .scored) (a .args .k) 2 (x .season-at .ensures) (a .fits .k .fits) (omega arith)
@@ -48,15 +48,15 @@ returns-2 c =
     let i = c .before .before in
     rw (← (i .before .before .before .before .pre), ← (i .before .before .season-at .ensures), ← (i .before .due .ensures), eq-eqb _ _ (i .if1 .left), ne-eqb _ _ (c .if2 .taken))
 
-read-i64-requires : tie.Need-read-i64-requires
-read-i64-requires c κs = omega (arith, room (c .before .before))
+value-at-requires : tie.Need-value-at-requires
+value-at-requires c κs = omega (arith, room (c .before .before))
 
 returns-3 : tie.Need-returns-3
 unfolding seasonCode
 returns-3 c =
     let r = c .before .before in
     let i = r .before .before .before in
-    rw (← (i .before .before .before .before .pre), ← (i .before .before .season-at .ensures), ← (i .before .due .ensures), eq-eqb _ _ (i .if1 .left), eq-eqb _ _ (r .before .if2 .left), ← (back w64 _ (r .read-i64 .ok) ∙ r .read-i64 .ensures), ← (c .before .in-range .ensures)) (c .unless .ensures)
+    rw (← (i .before .before .before .before .pre), ← (i .before .before .season-at .ensures), ← (i .before .due .ensures), eq-eqb _ _ (i .if1 .left), eq-eqb _ _ (r .before .if2 .left), ← (back w64 _ (r .value-at .ok) ∙ r .value-at .ensures), ← (c .before .in-range .ensures)) (c .unless .ensures)
 
 pub season-code-spec : {M : Type 1} → statement M
 season-code-spec =
@@ -68,8 +68,8 @@ season-code-spec =
     add-if2
     shared-slice-read-if2
     returns-2
-    add-read-i64
-    read-i64-requires
+    add-value-at
+    value-at-requires
     (λ c κs. search needs)
     (λ c κs. search needs)
     returns-3)

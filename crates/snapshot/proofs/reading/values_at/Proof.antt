@@ -10,7 +10,7 @@ returns : tie.Need-returns
 returns c =
     let t = c .before in
     let l = t .before .before .before in
-    rw (← (back w64 _ (l .read-i64 .ok) ∙ l .read-i64 .ensures), ← (back w64 _ (t .read-i642 .ok) ∙ t .read-i642 .ensures), ← (t .before .before .in-range .ensures), ← (c .trend-ok .ensures))
+    rw (← (back w64 _ (l .value-at .ok) ∙ l .value-at .ensures), ← (back w64 _ (t .value-at2 .ok) ∙ t .value-at2 .ensures), ← (t .before .before .in-range .ensures), ← (c .trend-ok .ensures))
 
 pub values-at-spec : {M : Type 1} → statement M
 values-at-spec =
