@@ -3,7 +3,7 @@
  * bench count ROW WHO N      N calls of one row by one of them, and nothing else: for an instruction counter
  * bench function ROW WHO     the name of the C function that this calls
  * bench rows, bench builds   the names of the rows, of the builds */
-#include "bench_calls.h"
+#include "bench_api.h"
 #include "calls.h"
 #include "forecaster.h"
 #include "reference.h"

@@ -1,7 +1,7 @@
 /* The station's calls and the benchmark's, tried from C beside reference.c: every call on every refusal that can reach it, on random groups
  * whole and damaged, new and old (W-204), and for long runs on one group. Guard bytes stand before each buffer and an unmapped page after it. */
 #define _DEFAULT_SOURCE
-#include "bench_calls.h"
+#include "bench_api.h"
 #include "forecaster.h"
 #include "reference.h"
 

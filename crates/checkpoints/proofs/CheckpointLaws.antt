@@ -30,7 +30,7 @@ use Rattle.saving.proofs.ByteLaws.{bytes-drop, bytes-take}
 use Rattle.saving.proofs.Lengths.{length-encoded}
 use Rattle.round_trips.proofs.RoundTrip.{read-back, decoded-typed}
 use Rattle.checkpoints.specs.Checkpoints.{slots, slotSize, checkpointsSize, slotAt, slotIn, noCheckpoints, storeCode, store, storedBytes, isHeld, restoreCode, nothingKept, restore}
-use Rattle.checkpoints.specs.Promises.{StoredBack, StoresBack, Restored, NothingKept}
+use Rattle.checkpoints.specs.Promises.{StoresBack, Restored, NothingKept}
 use Rattle.checkpoints.proofs.SlotLaws.{put-at, same-slot, other-slot}
 
 -- what was let pass: the state, one of the four slots, room for all of them

@@ -23,7 +23,7 @@ use Rattle.slices.specs.Slices.{inPlaceCode}
 use Rattle.saving.specs.Encoding.{toBytes, modelBytes, levelBytes, scoreBytes, seasonBytes, seasonsBytes, positionBytes, encoded}
 use Rattle.in_place.specs.InPlace.{inPlaceStepCode, inPlaceStepBytes, inPlaceMissingCode, inPlaceMissingBytes, inPlaceSwitchBytes, inPlaceForecastCode, inPlaceForecast}
 use Rattle.traces.specs.Calls.{result, after}
-use Rattle.traces.specs.Operations.{on-state, perform}
+use Rattle.traces.specs.Operations.{on-state, operate}
 use Rattle.drift.specs.Exact.{Parameters, parametersOf, exactDamped, exactResidualBy, adjusted, exactSeasonBy, exactTakeBy, exactBatchBy, exactTrendAt, exactLine, exactForecast, exactAfter, expectedLevelsBy, upTo, expected, besideAfter, expectedBy}
 use Rattle.drift.specs.Limits.{AtMost, AllWithin}
 use Rattle.drift.specs.Pins.{beside, compared}
@@ -41,7 +41,7 @@ four-contracts : Contracting (parametersOf four)
 four-contracts = contracts _ refl (lit< tt) refl (leb→le _ _ tt) (record { lt = tt })
 
 refused : Refused
-unfolding AllWithin AtMost WithinOneStep perform besideAfter expectedBy result check parametersCode allBelow sumOf sumOk R share dampedTrend seasonBy residual newLevel newTrend newSeason seasonalBy squareOf scoreAfter nextIndex stepCodeBy step trendAt trendLine seasonAt forecastOf forecastCodeTo forecastTo forecastList forecastsCodeTo forecastsTo forecastCellsTo fromBytes toBytes commandSize isCommand dueCode modelCode levelCode scoreCode seasonCode scanSeasons positionCode scan cellsAt decoded modelBytes levelBytes scoreBytes seasonBytes seasonsBytes positionBytes encoded inPlaceCode inPlaceForecastCode inPlaceForecast inPlaceSwitchBytes switchToEven exactDamped exactResidualBy adjusted exactSeasonBy exactTrendAt exactLine exactForecast upTo exactAfter expected
+unfolding AllWithin AtMost WithinOneStep operate besideAfter expectedBy result check parametersCode allBelow sumOf sumOk R share dampedTrend seasonBy residual newLevel newTrend newSeason seasonalBy squareOf scoreAfter nextIndex stepCodeBy step trendAt trendLine seasonAt forecastOf forecastCodeTo forecastTo forecastList forecastsCodeTo forecastsTo forecastCellsTo fromBytes toBytes commandSize isCommand dueCode modelCode levelCode scoreCode seasonCode scanSeasons positionCode scan cellsAt decoded modelBytes levelBytes scoreBytes seasonBytes seasonsBytes positionBytes encoded inPlaceCode inPlaceForecastCode inPlaceForecast inPlaceSwitchBytes switchToEven exactDamped exactResidualBy adjusted exactSeasonBy exactTrendAt exactLine exactForecast upTo exactAfter expected
 refused =
     record {
       forecast = λ h. le→leb _ _ (first (h .0 four-contracts) refl refl);

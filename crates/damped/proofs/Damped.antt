@@ -13,7 +13,7 @@ use Rattle.ets.specs.Steps.{stepCode, missingCode, afterReading, afterMissing}
 use Rattle.ets.proofs.Kept.{reading-typed, reading-kept, missing-kept}
 use Rattle.forecasts.specs.Forecasts.{forecastOf}
 use Rattle.traces.specs.Laws.{Passing}
-use Rattle.drift.specs.Exact.{Parameters, parametersOf, Exact, opened, exactReading, exactMissing, exactSeasonBy, expectedForecast}
+use Rattle.drift.specs.Exact.{Parameters, parametersOf, Exact, exactOf, exactReading, exactMissing, exactSeasonBy, expectedForecast}
 use Rattle.drift.proofs.StepErrors.{none-apart}
 use Rattle.drift.proofs.Runs.{Keeps, claim}
 use Rattle.damped.specs.Limits.{WithinOneStep, Contracting, OneStepForecasts}
@@ -87,7 +87,7 @@ keeps c m =
 fits : (c : Parameters) → Contracting c → Damped c
 fits c m = damped c (m .trended) (m .seasonless) (omega arith) (m .gains) (m .margin)
 
-start : (s : State) → Passing s → Contracting (parametersOf s) → Good (parametersOf s) s (opened s)
+start : (s : State) → Passing s → Contracting (parametersOf s) → Good (parametersOf s) s (exactOf s)
 start s w m =
     record {
       passing = w;

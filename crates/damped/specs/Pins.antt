@@ -15,12 +15,12 @@ use Rattle.state.specs.declared.State.{State}
 use Rattle.forecasts.specs.Forecasts.{maxHorizon, displayHorizon, forecastOf}
 use Rattle.traces.specs.Calls.{followed, cut, Call, Reading, Missing, Switch, Batch, Forecast, Forecasts, InPlaceReading, InPlaceMissing, InPlaceSwitch, InPlaceForecast, after}
 use Rattle.traces.specs.Operations.{standingOf, on-state}
-use Rattle.drift.specs.Exact.{parametersOf, Exact, opened, exactForecast, level-is, forecast-is, expectedForecast, startingFrom}
+use Rattle.drift.specs.Exact.{parametersOf, Exact, exactOf, exactForecast, level-is, forecast-is, expectedForecast, startingFrom}
 use Rattle.drift.specs.Limits.{distance, AtMost, Opening}
 use Rattle.drift.specs.Pins.{standing, besideFrom, compared}
 use Rattle.damped.specs.Limits.{scaledK, GainsWithinOne, OneStepBound, WithinOneStep, Contracting, OneStepClaim}
 
--- a state of a damped model without season: A, B, F, l and b. It is opened by 18 where B is above A
+-- a state of a damped model without season: A, B, F, l and b. It is exactOf by 18 where B is above A
 abbrev pub damped : ℕ → ℕ → ℕ → ℤ → ℤ → State
 damped A B F l b = stateOf (not (usualGains A B 0)) 2 0 A B 0 F l b [] 0 0 noScore
 
@@ -116,7 +116,7 @@ barelyDamped = damped 32767 32767 65535 (pos 33680) (negsuc 33063)
 abbrev pub barelyDampedCalls : List Call
 barelyDampedCalls = readings (negsuc 721033 ∷ pos 589518 ∷ negsuc 147971 ∷ [])
 
--- α = 3/10, β just below 1, φ just below 1/2, opened by 18
+-- α = 3/10, β just below 1, φ just below 1/2, exactOf by 18
 abbrev pub swinging : State
 swinging = damped 19661 65535 32767 (pos 32796) (pos 105)
 
@@ -171,9 +171,9 @@ pub record Shown : Type 0 where
   -- with ties to even from the start
   pub opens-even : OpensContracting (switched opening)
   pub opens-relative : OpensContracting relative
-  pub holds : ClaimOf opening (opened opening) calls
+  pub holds : ClaimOf opening (exactOf opening) calls
   pub rule-after : tiesToEven (after opening calls .model) ≡ true
-  pub compares : compared (parametersOf opening) opening (opened opening) calls
+  pub compares : compared (parametersOf opening) opening (exactOf opening) calls
       ≡ (pos 104 ∷ [], forecast-is (pos 6833600) 1 1 0 0 ∷ [])
       ∷ ([], [])
       ∷ (

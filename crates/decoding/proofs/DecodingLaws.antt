@@ -1,5 +1,5 @@
 -- Laws of the command at an offset: the order of its refusals.
-use Prim.Native.Nat.{ℕ, zero, suc, _+_, _-_, _*_, _≤_, _<_}
+use Prim.Native.Nat.{ℕ, zero, suc, _+_, _-_, _≤_, _<_}
 use mathlib.Core.Path.{_≡_, refl}
 use mathlib.Core.Bool.{Bool, true, false, cond, not, _&&_, _||_, false≢true}
 use mathlib.Core.List.{List}
@@ -13,7 +13,7 @@ use Rattle.state.proofs.Tests.{unless-then, unless-zero}
 use Rattle.layout.specs.Answers.{lengthAnswer}
 use Rattle.layout.specs.CommandTable.{commandSize, isCommand, onlyInSnapshot, opens, commandLength}
 use Rattle.layout.specs.declared.Length.the-variants as length-of
-use Rattle.decoding.specs.Decoding.{errorsFit, inPlace, commandCode, operands, decoded, decode}
+use Rattle.decoding.specs.Decoding.{errorsFit, allowedHere, commandCode, operands, decoded, decode}
 use Rattle.decoding.specs.declared.Command.the-variants as command-of
 
 -- ---- the length of a command, as the table told it
@@ -44,7 +44,7 @@ module _ (s : List ℕ) (at : ℕ) (active : Bool) (model : ℕ) where
   b = getD s at 0
 
   abbrev Due : Bool → Type 0
-  Due t = inPlace b active model ≡ t
+  Due t = allowedHere b active model ≡ t
 
   pub decode-end : length s ≤ at → decode s at active model ≡ decoded command-of.End at
   unfolding decode
@@ -90,7 +90,7 @@ pub record Whole (s : List ℕ) (at : ℕ) (active : Bool) : Type 0 where
   pub most : commandSize (getD s at 0) ≤ length s - at
 
 pub whole-command : (s : List ℕ) (at : ℕ) (active : Bool) (model : ℕ) → commandCode s at active model ≡ 0 → Whole s at active
-unfolding commandCode isCommand inPlace
+unfolding commandCode isCommand allowedHere
 whole-command s at active model e =
     let b = getD s at 0 in
     let open-or-opens = not (onlyInSnapshot b) && (active || opens b) in

@@ -19,15 +19,15 @@ abbrev pub errorsFit : ℕ → ℕ → Bool
 errorsFit b model = not (eqb b 0x31 || eqb b 0x32) || errorsAre (eqb b 0x32) model
 
 -- a command's place outside a group, where a state is open or not, with its model byte
-unfoldable pub inPlace : ℕ → Bool → ℕ → Bool
-inPlace b active model = (not (onlyInSnapshot b) && (active || opens b)) && errorsFit b model
+unfoldable pub allowedHere : ℕ → Bool → ℕ → Bool
+allowedHere b active model = (not (onlyInSnapshot b) && (active || opens b)) && errorsFit b model
 
 -- what rejects the command that begins there, before its operands are looked at, or 0
 unfoldable pub commandCode : List ℕ → ℕ → Bool → ℕ → ℕ
 commandCode s at active model =
     let b = getD s at 0 in
     unless (isCommand b) unknown-command
-    then unless (inPlace b active model) out-of-place
+    then unless (allowedHere b active model) out-of-place
     then unless (leb (commandSize b) (length s - at)) truncated
 
 -- the command of a first byte, with its operands

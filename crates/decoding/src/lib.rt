@@ -10,7 +10,7 @@ use reading::command_at;
 use state::OUT_OF_PLACE;
 use state::TRUNCATED;
 ghost use mathlib.Core.Path.{_≡_};
-ghost use Rattle.decoding.specs.Decoding.{inPlace, decode};
+ghost use Rattle.decoding.specs.Decoding.{allowedHere, decode};
 
 pub enum Command {
     // No command: the stream ends.
@@ -38,8 +38,8 @@ pub struct Decoded {
 }
 
 // A command's place outside a snapshot: 31 is for additive errors, 32 for multiplicative ones.
-fn in_place(b: u8, active: bool, model: u8) -> bool
-    ensures { λ r. ⌜ r ≡ inPlace b active model ⌝ }
+fn allowed_here(b: u8, active: bool, model: u8) -> bool
+    ensures { λ r. ⌜ r ≡ allowedHere b active model ⌝ }
 {
     let variance = (b == 0x31) | (b == 0x32);
     let fits = !variance | errors_are(b == 0x32, model);
@@ -60,7 +60,7 @@ pub fn decode(s: &[u8], at: usize, active: bool, model: u8) -> Decoded
     let size = command_length(b);
     match size {
         Length::Bytes(n) => {
-            if !in_place(b, active, model) {
+            if !allowed_here(b, active, model) {
                 return Decoded {
                     command: Command::Rejected(OUT_OF_PLACE),
                     next: at,

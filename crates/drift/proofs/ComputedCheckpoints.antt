@@ -21,7 +21,7 @@ use Rattle.snapshot.specs.Snapshots.{dueCode, modelCode, levelCode, scoreCode, 
 use Rattle.saving.specs.Encoding.{toBytes, modelBytes, levelBytes, scoreBytes, seasonBytes, seasonsBytes, positionBytes, encoded}
 use Rattle.checkpoints.specs.Checkpoints.{storeCode, storedBytes, isHeld, restoreCode, restore}
 use Rattle.traces.specs.Calls.{Forecast, result}
-use Rattle.traces.specs.Operations.{Standing, standingOf, Operation, on-state, Store, Restore, Open, perform}
+use Rattle.traces.specs.Operations.{Standing, standingOf, Operation, on-state, Store, Restore, Open, operate}
 use Rattle.drift.specs.Exact.{exactDamped, exactResidualBy, adjusted, exactSeasonBy, exactTakeBy, exactBatchBy, exactTrendAt, exactLine, exactForecast, exactAfter, expectedLevelsBy, upTo, expected, Run, Beside, besideAfter, expectedBy}
 use Rattle.drift.specs.Limits.{AtMost, WithinLimit, AllWithin, Claim}
 use Rattle.drift.specs.Pins.{OpensTrendless}
@@ -55,15 +55,15 @@ few = are-bytes (0x10 ∷ []) refl
 -- ---- a forecast after a list, where the state and the exact recursion are again those of the start: the list is computed once
 standingOver : Standing → List Operation → Standing
 standingOver a [] = a
-standingOver a (o ∷ os) = standingOver (perform a o .standing) os
+standingOver a (o ∷ os) = standingOver (operate a o .standing) os
 
 last-claim : (os : List Operation) (o : Operation) (a : Standing) (b : Beside) → Claim a b (os ++ (o ∷ [])) → Claim (standingOver a os) (besideOver a b os) (o ∷ [])
 unfolding AllWithin standingOver besideOver
 last-claim [] o a b h = h
-last-claim (p ∷ os) o a b h = last-claim os o (perform a p .standing) (besideAfter b (perform a p .notice)) (h .1)
+last-claim (p ∷ os) o a b h = last-claim os o (operate a p .standing) (besideAfter b (operate a p .notice)) (h .1)
 
 one-apart : (d : List ℕ) (kept : ℕ → Run) → Claim (record { state = one; checkpoints = d }) (record { run = apart .run; kept = kept }) (on-state (Forecast maxHorizon 1) ∷ []) → ⊥
-unfolding AllWithin AtMost WithinLimit perform expectedBy result check parametersCode allBelow sumOf sumOk R share trendAt trendLine seasonAt forecastOf forecastCodeTo forecastTo exactTrendAt exactLine exactForecast expected
+unfolding AllWithin AtMost WithinLimit operate expectedBy result check parametersCode allBelow sumOf sumOk R share trendAt trendLine seasonAt forecastOf forecastCodeTo forecastTo exactTrendAt exactLine exactForecast expected
 one-apart d kept h = le→leb _ _ (first (h .0 refl) refl .0 refl)
 
 still-apart : (a : Standing) (b : Beside) → a .state ≡ one → b .run ≡ apart .run → Claim a b (on-state (Forecast maxHorizon 1) ∷ []) → ⊥
@@ -74,7 +74,7 @@ fails-after : (os : List Operation) → standingOver (standingOf one) os .state 
 fails-after os e f h = still-apart _ _ e f (last-claim os (on-state (Forecast maxHorizon 1)) (standingOf one) apart h)
 
 refused : CheckpointsRefused
-unfolding standingOver besideOver perform besideAfter check parametersCode allBelow sumOf sumOk fromBytes toBytes commandSize isCommand dueCode modelCode levelCode scoreCode seasonCode scanSeasons positionCode scan cellsAt decoded read modelBytes levelBytes scoreBytes seasonBytes seasonsBytes positionBytes encoded storeCode storedBytes isHeld restoreCode restore
+unfolding standingOver besideOver operate besideAfter check parametersCode allBelow sumOf sumOk fromBytes toBytes commandSize isCommand dueCode modelCode levelCode scoreCode seasonCode scanSeasons positionCode scan cellsAt decoded read modelBytes levelBytes scoreBytes seasonBytes seasonsBytes positionBytes encoded storeCode storedBytes isHeld restoreCode restore
 refused =
     record {
       bytes = bytes-one;
@@ -95,7 +95,7 @@ unfolding check parametersCode allBelow sumOf sumOk
 opens = (record { typed = record { cells = refl; low = lit< tt }; passes = refl }, refl)
 
 shown : CheckpointsShown
-unfolding holiday afterwards comparedOver besideOver perform besideAfter expectedBy result check parametersCode allBelow sumOf sumOk R share dampedTrend seasonBy residual newLevel newTrend newSeason seasonalBy squareOf scoreAfter nextIndex stepCodeBy advanced missingCode step missing takeCodeBy afterTakeBy runBy batchRun batch batchLevels trendAt trendLine seasonAt forecastOf forecastCodeTo forecastTo forecastList forecastsCodeTo forecastsTo forecastCellsTo fromBytes toBytes commandSize isCommand dueCode modelCode levelCode scoreCode seasonCode scanSeasons positionCode scan cellsAt decoded read modelBytes levelBytes scoreBytes seasonBytes seasonsBytes positionBytes encoded storeCode storedBytes isHeld restoreCode restore exactDamped exactResidualBy adjusted exactSeasonBy exactTakeBy exactBatchBy exactTrendAt exactLine exactForecast exactAfter expectedLevelsBy upTo expected
+unfolding holiday afterwards comparedOver besideOver operate besideAfter expectedBy result check parametersCode allBelow sumOf sumOk R share dampedTrend seasonBy residual newLevel newTrend newSeason seasonalBy squareOf scoreAfter nextIndex stepCodeBy advanced missingCode step missing takeCodeBy afterTakeBy runBy batchRun batch batchLevels trendAt trendLine seasonAt forecastOf forecastCodeTo forecastTo forecastList forecastsCodeTo forecastsTo forecastCellsTo fromBytes toBytes commandSize isCommand dueCode modelCode levelCode scoreCode seasonCode scanSeasons positionCode scan cellsAt decoded read modelBytes levelBytes scoreBytes seasonBytes seasonsBytes positionBytes encoded storeCode storedBytes isHeld restoreCode restore exactDamped exactResidualBy adjusted exactSeasonBy exactTakeBy exactBatchBy exactTrendAt exactLine exactForecast exactAfter expectedLevelsBy upTo expected
 shown = record { opens = opens; bytes = bytes-damped; counts = record { readings = refl; gaps = refl; steps = refl }; compares = refl }
 
 pub checkpoint-pins : CheckpointPins

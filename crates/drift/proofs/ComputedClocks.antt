@@ -13,11 +13,11 @@ use Rattle.calendars.specs.Turns.{nextIndex}
 use Rattle.ets.specs.Steps.{dampedTrend, seasonBy, newLevel, newTrend, newSeason, seasonalBy, squareOf, scoreAfter, stepCodeBy, advanced, missingCode, step, residual}
 use Rattle.ets.specs.Batches.{takeCodeBy, afterTakeBy, runBy, batchRun, batch, batchLevels}
 use Rattle.ets.specs.Calendars.{calendarCode, stepCodeOn, missingCodeOn, batchCodeOn, stepOn, missingOn, batchRunOn, batchOn, batchLevelsOn}
-use Rattle.forecasts.specs.Forecasts.{trendAt, trendLine, seasonAt, forecastOf, forecastCodeTo, forecastsCodeTo}
+use Rattle.forecasts.specs.Forecasts.{trendAt, trendLine, forecastCodeTo, forecastsCodeTo}
 use Rattle.forecasts.specs.Calendars.{indexFrom, forecastBy, forecastListBy, forecastCodeOn, forecastOn, forecastsCodeOn, forecastsOn, forecastCellsOn}
 use Rattle.traces.specs.Calls.{result, after}
-use Rattle.traces.specs.Operations.{on-state, perform}
-use Rattle.drift.specs.Exact.{exactDamped, exactResidualBy, adjusted, exactSeasonBy, exactTakeBy, exactBatchBy, exactTrendAt, exactLine, exactForecast, exactForecastBy, exactAfter, expectedLevelsBy, upTo, expected, besideAfter, expectedBy}
+use Rattle.traces.specs.Operations.{on-state, operate}
+use Rattle.drift.specs.Exact.{exactDamped, exactResidualBy, adjusted, exactSeasonBy, exactTakeBy, exactBatchBy, exactTrendAt, exactLine, exactForecastBy, exactAfter, expectedLevelsBy, upTo, expected, besideAfter, expectedBy}
 use Rattle.drift.specs.Limits.{AtMost, WithinLimit, AllWithin}
 use Rattle.drift.specs.Pins.{OpensTrendless, beside, compared}
 use Rattle.drift.specs.ClockPins.{ClocksRefused, ClocksNeeded, day, clocks, ClocksShown, ClockPins}
@@ -25,7 +25,7 @@ use Rattle.drift.proofs.Runs.{first}
 use Rattle.drift.proofs.Drift.{demand3}
 
 refused : ClocksRefused
-unfolding AllWithin AtMost WithinLimit perform besideAfter expectedBy result rising disjoint check parametersCode allBelow sumOf sumOk R share dampedTrend seasonBy residual newLevel newTrend newSeason seasonalBy squareOf scoreAfter nextIndex stepCodeBy takeCodeBy afterTakeBy runBy calendarCode stepCodeOn batchCodeOn stepOn batchRunOn batchOn batchLevelsOn trendAt trendLine forecastCodeTo forecastsCodeTo indexFrom forecastBy forecastListBy forecastCodeOn forecastOn forecastsCodeOn forecastsOn forecastCellsOn exactDamped exactResidualBy adjusted exactSeasonBy exactTakeBy exactTrendAt exactLine exactForecastBy expectedLevelsBy upTo exactAfter expected
+unfolding AllWithin AtMost WithinLimit operate besideAfter expectedBy result rising disjoint check parametersCode allBelow sumOf sumOk R share dampedTrend seasonBy residual newLevel newTrend newSeason seasonalBy squareOf scoreAfter nextIndex stepCodeBy takeCodeBy afterTakeBy runBy calendarCode stepCodeOn batchCodeOn stepOn batchRunOn batchOn batchLevelsOn trendAt trendLine forecastCodeTo forecastsCodeTo indexFrom forecastBy forecastListBy forecastCodeOn forecastOn forecastsCodeOn forecastsOn forecastCellsOn exactDamped exactResidualBy adjusted exactSeasonBy exactTakeBy exactTrendAt exactLine exactForecastBy expectedLevelsBy upTo exactAfter expected
 refused =
     record {
       forecast = λ h. le→leb _ _ (first (h .0 refl) refl .1 refl refl);

@@ -17,7 +17,7 @@ use Rattle.ets.proofs.CalendarLaws.{Followed}
 use Rattle.forecasts.specs.Forecasts.{forecastOf}
 use Rattle.forecasts.specs.Calendars.{forecastBy}
 use Rattle.traces.specs.Laws.{Passing}
-use Rattle.drift.specs.Exact.{Parameters, parametersOf, Exact, opened, exactReading, exactMissing, level-is, expectedForecast, expectedForecastBy}
+use Rattle.drift.specs.Exact.{Parameters, parametersOf, Exact, exactOf, exactReading, exactMissing, level-is, expectedForecast, expectedForecastBy}
 use Rattle.drift.specs.Limits.{HalfPerReading, WithinLimit, StateWithin, Trendless, Demand3}
 use Rattle.drift.proofs.Averages.{D, zeroD, Same}
 use Rattle.drift.proofs.Spread.{inv-start}
@@ -91,13 +91,13 @@ no-size : (a e : ℕ) (d : D) → Same d zeroD → Sized a e d
 no-size a e d h = (omega (arith, ap (λ (z : ℕ). a * z) h), omega (arith, ap (λ (z : ℕ). a * z) h))
 
 module _ (s : State) (o : Passing s) (flat : Trendless (parametersOf s)) where
-  level-start : Same (levelErr s (opened s)) zeroD
+  level-start : Same (levelErr s (exactOf s)) zeroD
   level-start = omega arith
 
-  season-start : (k : ℕ) → Same (seasonErr s (opened s) k) zeroD
+  season-start : (k : ℕ) → Same (seasonErr s (exactOf s) k) zeroD
   season-start k = omega arith
 
-  start : Good (parametersOf s) s (opened s)
+  start : Good (parametersOf s) s (exactOf s)
   start =
       record {
         passes = o .passes;
@@ -106,10 +106,10 @@ module _ (s : State) (o : Passing s) (flat : Trendless (parametersOf s)) where
         index = refl;
         count = refl;
         bare = λ h k. rw h;
-        level = no-error (0 * 1) (levelErr s (opened s)) level-start;
-        places = λ k. no-error (0 * 1) (seasonErr s (opened s) k) (season-start k);
-        plain = λ h. no-size (65536 * s .alpha) (4294967296 * 1) (levelErr s (opened s)) level-start;
-        cycle = λ h a g z u. inv-start 4294967296 (65536 * (65536 - s .alpha)) (65536 * s .gamma) (65536 * (65536 - s .gamma)) (s .period) (s .index) (omega arith) (omega (arith, bounded s (o .passes) .gamma)) (omega arith) (omega arith) (omega (arith, with-season s (o .passes) h .index)) (levelErr s (opened s)) (seasonErr s (opened s)) level-start season-start;
+        level = no-error (0 * 1) (levelErr s (exactOf s)) level-start;
+        places = λ k. no-error (0 * 1) (seasonErr s (exactOf s) k) (season-start k);
+        plain = λ h. no-size (65536 * s .alpha) (4294967296 * 1) (levelErr s (exactOf s)) level-start;
+        cycle = λ h a g z u. inv-start 4294967296 (65536 * (65536 - s .alpha)) (65536 * s .gamma) (65536 * (65536 - s .gamma)) (s .period) (s .index) (omega arith) (omega (arith, bounded s (o .passes) .gamma)) (omega arith) (omega arith) (omega (arith, with-season s (o .passes) h .index)) (levelErr s (exactOf s)) (seasonErr s (exactOf s)) level-start season-start;
       }
 
 pub demand3 : Demand3

@@ -18,7 +18,7 @@ use Rattle.models.proofs.ModelLaws.{no-third}
 use Rattle.state.proofs.Rounding.{share-error, share-one, share-none}
 use Rattle.state.proofs.Passing.{allowed, passed, bounded}
 use Rattle.forecasts.specs.Forecasts.{trendAt, trendLine, seasonAt, forecastOf}
-use Rattle.drift.specs.Exact.{parametersOf, opened, exactTrendAt, exactLine, exactForecast}
+use Rattle.drift.specs.Exact.{parametersOf, exactOf, exactTrendAt, exactLine, exactForecast}
 use Rattle.drift.specs.Limits.{AtMost}
 use Rattle.drift.specs.ForecastErrors.{exactFrom, DampedBound, ForecastErrors}
 
@@ -48,11 +48,11 @@ line-next p s t d n = rw (known s, known t, known d, known n) (simp diff (omega 
 line-limit : (k p : ℕ) → 65536 * (k * suc k * p) + 2 * (suc k * (65536 * p)) ≡ suc k * suc (suc k) * (65536 * p)
 line-limit k p = omega arith
 
-line-error : (s : State) → s .phi ≤ 65536 → (h : ℕ) → Within (h * suc h * 65536 ^ h) (pos 4 *ℤ (pos (65536 ^ h) *ℤ trendLine (tiesToEven (s .model)) (s .level) (s .phi) (s .trend) h -ℤ exactLine (parametersOf s) (opened s) h))
+line-error : (s : State) → s .phi ≤ 65536 → (h : ℕ) → Within (h * suc h * 65536 ^ h) (pos 4 *ℤ (pos (65536 ^ h) *ℤ trendLine (tiesToEven (s .model)) (s .level) (s .phi) (s .trend) h -ℤ exactLine (parametersOf s) (exactOf s) h))
 unfolding trendLine exactLine
 line-error s f zero = rw (line-zero (s .level)) (within-zero (0 * 1 * 1))
 line-error s f (suc h) =
-    rw (pow-succ' 65536 h, line-next (65536 ^ h) (trendLine (tiesToEven (s .model)) (s .level) (s .phi) (s .trend) h) (exactLine (parametersOf s) (opened s) h) (trendAt (tiesToEven (s .model)) (s .phi) (s .trend) (suc h)) (exactTrendAt (s .phi) (s .trend) (suc h)))
+    rw (pow-succ' 65536 h, line-next (65536 ^ h) (trendLine (tiesToEven (s .model)) (s .level) (s .phi) (s .trend) h) (exactLine (parametersOf s) (exactOf s) h) (trendAt (tiesToEven (s .model)) (s .phi) (s .trend) (suc h)) (exactTrendAt (s .phi) (s .trend) (suc h)))
     (rw (line-limit h (65536 ^ h)) at (within-add (within-mul (le-refl 65536) (line-error s f h)) (within-mul (le-refl 2) (rw (pow-succ' 65536 h) at (trend-error (tiesToEven (s .model)) (s .phi) (s .trend) f (suc h))))))
 
 -- ---- without trend, and with a straight one
@@ -103,12 +103,12 @@ whole-trend even F b w (suc j) =
 line-whole : (p : ℕ) (s d : ℤ) → pos (65536 * p) *ℤ (s +ℤ d) ≡ pos 65536 *ℤ (pos p *ℤ s) +ℤ pos (65536 * p) *ℤ d
 line-whole p s d = rw (known s, known d) (simp diff (omega arith))
 
-whole-line : (s : State) → Whole (tiesToEven (s .model)) (s .phi) → (h : ℕ) → pos (65536 ^ h) *ℤ trendLine (tiesToEven (s .model)) (s .level) (s .phi) (s .trend) h ≡ exactLine (parametersOf s) (opened s) h
+whole-line : (s : State) → Whole (tiesToEven (s .model)) (s .phi) → (h : ℕ) → pos (65536 ^ h) *ℤ trendLine (tiesToEven (s .model)) (s .level) (s .phi) (s .trend) h ≡ exactLine (parametersOf s) (exactOf s) h
 unfolding trendLine exactLine
 whole-line s w zero = once (s .level)
 whole-line s w (suc h) =
     rw (pow-succ' 65536 h, line-whole (65536 ^ h) (trendLine (tiesToEven (s .model)) (s .level) (s .phi) (s .trend) h) (trendAt (tiesToEven (s .model)) (s .phi) (s .trend) (suc h)), whole-line s w h)
-    (ap (λ (z : ℤ). pos 65536 *ℤ exactLine (parametersOf s) (opened s) h +ℤ z) (ap (λ (p : ℕ). pos p *ℤ trendAt (tiesToEven (s .model)) (s .phi) (s .trend) (suc h)) (sym (pow-succ' 65536 h)) ∙ whole-trend (tiesToEven (s .model)) (s .phi) (s .trend) w (suc h)))
+    (ap (λ (z : ℤ). pos 65536 *ℤ exactLine (parametersOf s) (exactOf s) h +ℤ z) (ap (λ (p : ℕ). pos p *ℤ trendAt (tiesToEven (s .model)) (s .phi) (s .trend) (suc h)) (sym (pow-succ' 65536 h)) ∙ whole-trend (tiesToEven (s .model)) (s .phi) (s .trend) w (suc h)))
 
 -- ---- which factor a model without damping has
 undamped-phi : (even : Bool) (t F : ℕ) → t < 4 → (t ≡ 3 → ⊥) → (t ≡ 2 → ⊥) → dampingOk t F ≡ true → Whole even F
@@ -121,7 +121,7 @@ twice : (b : Bool) (v : ℤ) → cond b (cond b v (pos 0)) (pos 0) ≡ cond b v 
 twice true v = refl
 twice false v = refl
 
-from-same : (s : State) (h : ℕ) → exactFrom s h ≡ exactLine (parametersOf s) (opened s) h +ℤ pos (65536 ^ h) *ℤ seasonAt s h
+from-same : (s : State) (h : ℕ) → exactFrom s h ≡ exactLine (parametersOf s) (exactOf s) h +ℤ pos (65536 ^ h) *ℤ seasonAt s h
 unfolding exactForecast seasonAt
 from-same s h = rw (twice (hasSeason (s .model)) (getD (s .seasonal) ((s .index + h - 1) % s .period) (pos 0)))
 
@@ -139,8 +139,8 @@ module _ (s : State) (ok : check s ≡ 0) (h : ℕ) where
   damped : DampedBound h (forecastOf s h) (exactFrom s h)
   unfolding AtMost forecastOf
   damped =
-      rw (from-same s h, with-season (65536 ^ h) (trendLine (tiesToEven (s .model)) (s .level) (s .phi) (s .trend) h) (exactLine (parametersOf s) (opened s) h) (seasonAt s h))
-      (omega (arith, absolute (h * suc h * 65536 ^ h) (pos (65536 ^ h) *ℤ trendLine (tiesToEven (s .model)) (s .level) (s .phi) (s .trend) h -ℤ exactLine (parametersOf s) (opened s) h) (line-error s (bounded s ok .phi) h)))
+      rw (from-same s h, with-season (65536 ^ h) (trendLine (tiesToEven (s .model)) (s .level) (s .phi) (s .trend) h) (exactLine (parametersOf s) (exactOf s) h) (seasonAt s h))
+      (omega (arith, absolute (h * suc h * 65536 ^ h) (pos (65536 ^ h) *ℤ trendLine (tiesToEven (s .model)) (s .level) (s .phi) (s .trend) h -ℤ exactLine (parametersOf s) (exactOf s) h) (line-error s (bounded s ok .phi) h)))
 
   undamped : (trendOf (s .model) ≡ 2 → ⊥) → pos (65536 ^ h) *ℤ forecastOf s h ≡ exactFrom s h
   unfolding forecastOf

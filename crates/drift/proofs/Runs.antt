@@ -21,12 +21,12 @@ use Rattle.snapshot.specs.Snapshots.{openCode, read}
 use Rattle.checkpoints.specs.Checkpoints.{restoreCode, restore}
 use Rattle.traces.specs.Calls.{Call, Result, result}
 use Rattle.traces.specs.Laws.{Passing}
-use Rattle.traces.specs.Operations.{Standing, standingOf, Operation, on-state, Store, Restore, Open, perform}
+use Rattle.traces.specs.Operations.{Standing, standingOf, Operation, on-state, Store, Restore, Open, operate}
 use Rattle.traces.proofs.Works.{by-code, Fitting, unlisted, listed, take-period, Works, reads, misses, switches, takes, forecasts-one, forecasts-all, walks-one, walks-all}
 use Rattle.traces.proofs.Results.{works}
 use Rattle.traces.proofs.Lists.{call-laws}
 use Rattle.traces.proofs.Operations.{Held, held-first, held-stored, opened-passes}
-use Rattle.drift.specs.Exact.{Parameters, parametersOf, Exact, opened, exactReadingBy, exactReading, exactMissingBy, exactMissing, exactTakeBy, exactBatchBy, exactAfter, Expected, level-is, expectedForecast, expectedForecastBy, upTo, expectedLevelsBy, expected, Run, runOf, Beside, besideOf, besideAfter, expectedBy}
+use Rattle.drift.specs.Exact.{Parameters, parametersOf, Exact, exactOf, exactReadingBy, exactReading, exactMissingBy, exactMissing, exactTakeBy, exactBatchBy, exactAfter, Expected, level-is, expectedForecast, expectedForecastBy, upTo, expectedLevelsBy, expected, Run, runOf, Beside, besideOf, besideAfter, expectedBy}
 use Rattle.drift.specs.Limits.{EachWithin, none, more, AllWithin}
 use Rattle.drift.proofs.Turns.{shifted, codeOf, stepped, exactStepped, code-turned, skips-from, skips-to, repeats-from, repeats-to, goes-from, goes-to, exact-skips, exact-repeats, exact-goes}
 
@@ -164,8 +164,8 @@ module _ (c : Parameters) (limit : ℤ → Expected → Type 0) (Inv : State →
     fine-call : (k : Call) → Fine x (result s k)
     fine-call k = let p = keeps .passing s x w in fine-works (works s (p .typed) (p .passes) k)
 
--- ---- a list of operations: the invariant holds, for the parameters that run, where they are of the kind; it has to hold of every state that is opened
-module _ (kind : Parameters → Type 0) (limit : Parameters → ℤ → Expected → Type 0) (Inv : Parameters → State → Exact → Type 0) (keeps : (c : Parameters) → kind c → Keeps c (limit c) (Inv c)) (start : (s : State) → Passing s → kind (parametersOf s) → Inv (parametersOf s) s (opened s)) where
+-- ---- a list of operations: the invariant holds, for the parameters that run, where they are of the kind; it has to hold of every state that is exactOf
+module _ (kind : Parameters → Type 0) (limit : Parameters → ℤ → Expected → Type 0) (Inv : Parameters → State → Exact → Type 0) (keeps : (c : Parameters) → kind c → Keeps c (limit c) (Inv c)) (start : (s : State) → Passing s → kind (parametersOf s) → Inv (parametersOf s) s (exactOf s)) where
   record Good (s : State) (r : Run) : Type 0 where
     passing : Passing s
     within : kind (r .parameters) → Inv (r .parameters) s (r .exact)
@@ -185,8 +185,8 @@ module _ (kind : Parameters → Type 0) (limit : Parameters → ℤ → Expected
     fine : (g : kind c) (k : Call) → Fine c (limit c) (Inv c) (keeps c g) (b .run .exact) (result (a .state) k)
     fine g = fine-call c (limit c) (Inv c) (keeps c g) (a .state) (b .run .exact) (w .state .within g)
 
-    good-after : (o : Operation) → AllGood (perform a o .standing) (besideAfter b (perform a o .notice))
-    unfolding perform besideAfter
+    good-after : (o : Operation) → AllGood (operate a o .standing) (besideAfter b (operate a o .notice))
+    unfolding operate besideAfter
     good-after (on-state k) =
         record { state = record { passing = call-laws (a .state) (w .state .passing) k .stays; within = λ g. fine g k .0 }; slots = w .slots }
     good-after (Store slot) =
@@ -202,8 +202,8 @@ module _ (kind : Parameters → Type 0) (limit : Parameters → ℤ → Expected
           slots = w .slots;
         }
 
-    each-within : (o : Operation) → kind c → EachWithin (limit c) (perform a o .numbers) (expectedBy (b .run) (perform a o .notice))
-    unfolding perform expectedBy
+    each-within : (o : Operation) → kind c → EachWithin (limit c) (operate a o .numbers) (expectedBy (b .run) (operate a o .notice))
+    unfolding operate expectedBy
     each-within (on-state k) g = fine g k .1
     each-within (Store slot) g = none
     each-within (Restore slot) g = none
@@ -214,7 +214,7 @@ module _ (kind : Parameters → Type 0) (limit : Parameters → ℤ → Expected
     unfolding AllWithin
     claim-from [] a b w = λ g. ends (b .run .parameters) (a .state) (b .run .exact) (w .state .within g)
     claim-from (o ∷ os) a b w =
-        (each-within a b w o, claim-from os (perform a o .standing) (besideAfter b (perform a o .notice)) (good-after a b w o))
+        (each-within a b w o, claim-from os (operate a o .standing) (besideAfter b (operate a o .notice)) (good-after a b w o))
 
     pub claim : (s : State) → Passing s → (os : List Operation) → AllWithin kind limit end (standingOf s) (besideOf s) os
     claim s w os = claim-from os (standingOf s) (besideOf s) (record { state = good-start s w; slots = held-first Good (λ slot. runOf s) })

@@ -19,7 +19,7 @@ use Rattle.state.specs.declared.State.{State}
 use Rattle.state.proofs.Passing.{bounded, no-trend, no-season}
 use Rattle.state.proofs.Rounding.{share-error}
 use Rattle.ets.specs.Steps.{termsOf, dampedTrend, seasonBy, residualOf, newLevel, newTrend, newSeason, seasonalBy, newSeasonal, afterReading, advanced, residual}
-use Rattle.drift.specs.Exact.{Parameters, parametersOf, Exact, opened, exactDamped, exactResidualBy, exactResidual, adjusted, exactReading}
+use Rattle.drift.specs.Exact.{Parameters, parametersOf, Exact, exactOf, exactDamped, exactResidualBy, exactResidual, adjusted, exactReading}
 use Rattle.drift.specs.Limits.{AtMost}
 use Rattle.drift.specs.Components.{StepErrors, MissingErrors}
 use Rattle.drift.proofs.Components.{season-here, season-there}
@@ -85,7 +85,7 @@ module _ (s : State) (full : length (s .seasonal) ≡ 48) (ok : check s ≡ 0) (
   c = parametersOf s
 
   abbrev x : Exact
-  x = opened s
+  x = exactOf s
 
   abbrev η : ℤ
   η = pos 65536 *ℤ dampedTrend s -ℤ exactDamped c x

@@ -9,13 +9,13 @@ use Rattle.forecasts.specs.Forecasts.{maxHorizon}
 use Rattle.layout.specs.Bytes.{AreBytes}
 use Rattle.saving.specs.Encoding.{encoded}
 use Rattle.traces.specs.Calls.{Reading, Missing, Batch, Forecast, Forecasts}
-use Rattle.traces.specs.Operations.{Standing, standingOf, Operation, on-state, Store, Restore, Open, perform}
+use Rattle.traces.specs.Operations.{Standing, standingOf, Operation, on-state, Store, Restore, Open, operate}
 use Rattle.drift.specs.Exact.{parametersOf, Exact, Expected, level-is, forecast-is, runOf, Beside, besideOf, besideAfter, expectedBy}
 use Rattle.drift.specs.Limits.{Claim}
 use Rattle.drift.specs.Pins.{seasonal, damped, plain, standing, OpensTrendless}
 
 -- ---- l is 1 and L just below 0: a forecast is just above its limit 1/(2α) = 1, and n/2 is 2. What the slots are said to have kept, which no 50 put there, and the same state
--- opened anew are within it
+-- exactOf anew are within it
 abbrev pub one : State
 one = plain (pos 1)
 
@@ -80,12 +80,12 @@ afterwards =
 unfoldable pub comparedOver : Standing → Beside → List Operation → List (List ℤ × List Expected)
 comparedOver a b [] = []
 comparedOver a b (o ∷ os) =
-    let r = perform a o in
+    let r = operate a o in
     (r .numbers, expectedBy (b .run) (r .notice)) ∷ comparedOver (r .standing) (besideAfter b (r .notice)) os
 
 unfoldable pub besideOver : Standing → Beside → List Operation → Beside
 besideOver a b [] = b
-besideOver a b (o ∷ os) = let r = perform a o in besideOver (r .standing) (besideAfter b (r .notice)) os
+besideOver a b (o ∷ os) = let r = operate a o in besideOver (r .standing) (besideAfter b (r .notice)) os
 
 -- its readings, missing ones and count of steps
 pub record Counts (x : Exact) (n missed count : ℕ) : Type 0 where

@@ -1,8 +1,8 @@
 -- What keeps demand 3 over clock changes (document 02, W-208) from being read weaker or emptier than it is: claims that fail, the condition of the season's limit, and runs
 -- with where the exact recursion stands and what is compared. Each is computed.
-use Prim.Native.Nat.{ℕ, _+_, _*_, _^_}
-use mathlib.Core.Bool.{true, false}
-use mathlib.Core.List.{List, [], _∷_, _++_}
+use Prim.Native.Nat.{ℕ, _*_, _^_}
+use mathlib.Core.Bool.{false}
+use mathlib.Core.List.{List, [], _∷_}
 use mathlib.Core.Path.{_≡_}
 use lib.IntN.{ℤ, pos, negsuc}
 use lib.ListN.{replicate}
@@ -10,10 +10,9 @@ use Rattle.calendars.specs.Calendars.{calendarOf}
 use Rattle.state.specs.Scores.{noScore}
 use Rattle.state.specs.States.{stateOf}
 use Rattle.state.specs.declared.State.{State}
-use Rattle.forecasts.specs.Forecasts.{forecastOf}
 use Rattle.traces.specs.Calls.{Call, Reading, Batch, ReadingOn, MissingOn, BatchOn, ForecastOn, ForecastsOn, after}
-use Rattle.drift.specs.Exact.{parametersOf, Exact, exponent, opened, exactForecast, level-is, forecast-is}
-use Rattle.drift.specs.Limits.{SeasonalBound, WithinLimit}
+use Rattle.drift.specs.Exact.{parametersOf, Exact, exactOf, level-is, forecast-is}
+use Rattle.drift.specs.Limits.{WithinLimit}
 use Rattle.drift.specs.Pins.{seasonal, plain, standing, ClaimOf, OpensTrendless, besideFrom, compared}
 
 -- ---- claims that fail: a day with α = 0 and γ = 1, so that its limit is 24 + 48 = 72; l is 72 and L just below 0, and n/2 is 73. With α = 1/2 a level in a cell is 1 from L
@@ -80,12 +79,12 @@ pub record ClocksShown : Type 0 where
   pub unlisted : StandsAfter (ReadingOn (calendarOf (101 ∷ []) (99 ∷ [])) (pos 5)) 2 3 0 (pos (3 * 65536 ^ 3)) (pos (2 * 65536 ^ 3))
   pub plain : StandsAfter (Reading (pos 5)) 2 3 0 (pos (3 * 65536 ^ 3)) (pos (2 * 65536 ^ 3))
   pub opens : OpensTrendless day
-  pub holds : ClaimOf day (opened day) clocks
+  pub holds : ClaimOf day (exactOf day) clocks
   -- after all of them: p is the state's, and a list took effect on 4 of 27 steps, of which 22 were missing readings
   pub stands : Stands (besideFrom day clocks) 5 127 4 (pos (106496 * 65536 ^ 10)) (pos (129024 * 65536 ^ 10)) (pos (211456 * 65536 ^ 10))
   pub place : after day clocks .index ≡ 5
   pub gaps : besideFrom day clocks .missed ≡ 22
-  pub compares : compared (parametersOf day) day (opened day) clocks
+  pub compares : compared (parametersOf day) day (exactOf day) clocks
       ≡ (
         pos 131072 ∷ pos 196608 ∷ pos 0 ∷ [],
         forecast-is (pos (131072 * 65536)) 1 1 0 0 ∷ forecast-is (pos (196608 * 65536 ^ 2)) 2 2 0 0 ∷ forecast-is (pos 0) 3 3 0 0 ∷ [],

@@ -7,7 +7,7 @@ use lib.ListN.{length, getD}
 use Rattle.state.specs.States.{check}
 use Rattle.state.specs.declared.State.{State}
 use Rattle.ets.specs.Steps.{afterReading, afterMissing}
-use Rattle.drift.specs.Exact.{Parameters, parametersOf, Exact, exponent, opened, exactDamped, exactReading, exactMissing}
+use Rattle.drift.specs.Exact.{Parameters, parametersOf, Exact, exponent, exactOf, exactDamped, exactReading, exactMissing}
 use Rattle.drift.specs.Limits.{AtMost}
 
 module _ (c : Parameters) (x : Exact) (y : ℤ) where
@@ -47,17 +47,17 @@ OneUnit z Z = AtMost 1 1 2 z Z
 
 -- one step from a state, and the exact one from the same state, in l, b and each season value
 pub record StepError (s : State) (y : ℤ) : Type 0 where
-  pub level : OneUnit (afterReading s y .level) (exactReading (parametersOf s) (opened s) y .L)
-  pub trend : OneUnit (afterReading s y .trend) (exactReading (parametersOf s) (opened s) y .T)
-  pub seasons : (k : ℕ) → k < s .period → OneUnit (getD (afterReading s y .seasonal) k (pos 0)) (exactReading (parametersOf s) (opened s) y .S k)
+  pub level : OneUnit (afterReading s y .level) (exactReading (parametersOf s) (exactOf s) y .L)
+  pub trend : OneUnit (afterReading s y .trend) (exactReading (parametersOf s) (exactOf s) y .T)
+  pub seasons : (k : ℕ) → k < s .period → OneUnit (getD (afterReading s y .seasonal) k (pos 0)) (exactReading (parametersOf s) (exactOf s) y .S k)
 
 -- of each state that the checks let pass
 abbrev pub StepErrors : Type 0
 StepErrors = (s : State) → length (s .seasonal) ≡ 48 → check s ≡ 0 → (y : ℤ) → StepError s y
 
--- the exact recursion, opened at a state, after one missing reading
+-- the exact recursion, exactOf at a state, after one missing reading
 abbrev pub skipped : State → Exact
-skipped s = exactMissing (parametersOf s) (opened s)
+skipped s = exactMissing (parametersOf s) (exactOf s)
 
 -- half a unit
 abbrev pub HalfUnit : ℕ → ℤ → ℤ → Type 0

@@ -14,7 +14,7 @@ use Rattle.state.specs.declared.State.{State}
 use Rattle.calendars.specs.Turns.{Turn, turnFrom}
 use Rattle.forecasts.specs.Calendars.{placeFrom}
 use Rattle.traces.specs.Calls.{Event, observed, unobserved, untold, series, horizon, horizons, horizon-on, horizons-on}
-use Rattle.traces.specs.Operations.{Notice, called, stored, restored, opening}
+use Rattle.traces.specs.Operations.{Notice, called, storing, restored, opening}
 
 -- the trend and the season of the model and its parameters, which no call changes: the rounding rule is none of them
 pub record Parameters : Type 0 where
@@ -54,8 +54,8 @@ abbrev pub exponent : Parameters → Exact → ℕ
 exponent c x = 2 * x .n + cond (c .trended) (x .missed) 0
 
 -- L, T, S, p and the count start as in the opening state, n at 0; without season S is 0
-abbrev pub opened : State → Exact
-opened s =
+abbrev pub exactOf : State → Exact
+exactOf s =
     record {
       L = s .level;
       T = s .trend;
@@ -213,13 +213,13 @@ expected c x (horizon-on k h accepted) = cond accepted (expectedForecastBy k c x
 expected c x (horizons-on k h accepted) = cond accepted (upTo (expectedForecastBy k c x) h) []
 
 -- ---- document 02, W-209: the exact recursion is kept and brought back with the state, its opening and its readings with it. One that runs has the parameters of the state
--- that was opened
+-- that was exactOf
 pub record Run : Type 0 where
   pub parameters : Parameters
   pub exact : Exact
 
 abbrev pub runOf : State → Run
-runOf s = record { parameters = parametersOf s; exact = opened s }
+runOf s = record { parameters = parametersOf s; exact = exactOf s }
 
 -- the one that runs beside the state that stands, and the one that was kept with each slot's
 pub record Beside : Type 0 where
@@ -238,13 +238,13 @@ unfoldable pub besideAfter : Beside → Notice → Beside
 besideAfter b (called e) =
     let r = b .run in
     record { run = record { parameters = r .parameters; exact = exactAfter (r .parameters) (r .exact) e }; kept = b .kept }
-besideAfter b (stored slot accepted) = record { run = b .run; kept = λ k. cond (accepted && eqb k slot) (b .run) (b .kept k) }
+besideAfter b (storing slot accepted) = record { run = b .run; kept = λ k. cond (accepted && eqb k slot) (b .run) (b .kept k) }
 besideAfter b (restored slot accepted) = record { run = cond accepted (b .kept slot) (b .run); kept = b .kept }
 besideAfter b (opening t accepted) = record { run = cond accepted (runOf t) (b .run); kept = b .kept }
 
 -- a call's numbers are compared with those of the one that runs; there is nothing else to compare
 unfoldable pub expectedBy : Run → Notice → List Expected
 expectedBy r (called e) = expected (r .parameters) (r .exact) e
-expectedBy r (stored slot accepted) = []
+expectedBy r (storing slot accepted) = []
 expectedBy r (restored slot accepted) = []
 expectedBy r (opening t accepted) = []

@@ -6,12 +6,12 @@ use Rattle.models.specs.Models.{trendOf}
 use Rattle.state.specs.States.{check}
 use Rattle.state.specs.declared.State.{State}
 use Rattle.forecasts.specs.Forecasts.{seasonAt, forecastOf}
-use Rattle.drift.specs.Exact.{parametersOf, opened, exactForecast}
+use Rattle.drift.specs.Exact.{parametersOf, exactOf, exactForecast}
 use Rattle.drift.specs.Limits.{AtMost}
 
 -- the exact recursion's forecast from this state
 abbrev pub exactFrom : State → ℕ → ℤ
-exactFrom s h = exactForecast (parametersOf s) (opened s) h
+exactFrom s h = exactForecast (parametersOf s) (exactOf s) h
 
 -- h × (h + 1)/4
 abbrev pub DampedBound : ℕ → ℤ → ℤ → Type 0

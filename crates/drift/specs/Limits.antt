@@ -7,7 +7,7 @@ use lib.IntN.{ℤ, pos, natAbs, _-ℤ_, _*ℤ_}
 use lib.ListN.{getD}
 use Rattle.state.specs.declared.State.{State}
 use Rattle.traces.specs.Laws.{Passing}
-use Rattle.traces.specs.Operations.{Standing, standingOf, Operation, perform}
+use Rattle.traces.specs.Operations.{Standing, standingOf, Operation, operate}
 use Rattle.drift.specs.Exact.{Parameters, Exact, Expected, level-is, forecast-is, Beside, besideOf, besideAfter, expectedBy}
 
 -- the distance of z from Z over 65536 ^ power, times 65536 ^ power
@@ -32,7 +32,7 @@ AllWithin kind limit end a b [] =
     kind c → end c (a .state) (b .run .exact)
 AllWithin kind limit end a b (o ∷ os) =
     let c = b .run .parameters in
-    let r = perform a o in
+    let r = operate a o in
     (kind c → EachWithin (limit c) (r .numbers) (expectedBy (b .run) (r .notice)))
     × AllWithin kind limit end (r .standing) (besideAfter b (r .notice)) os
 

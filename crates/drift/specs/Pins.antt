@@ -17,12 +17,12 @@ use Rattle.forecasts.specs.Forecasts.{maxHorizon, displayHorizon, forecastOf}
 use Rattle.slices.specs.Slices.{inPlaceCode}
 use Rattle.traces.specs.Calls.{followed, cut, sliceOf, Call, Reading, Missing, Switch, Batch, Forecast, Forecasts, InPlaceReading, InPlaceMissing, InPlaceSwitch, InPlaceForecast, result, after}
 use Rattle.traces.specs.Operations.{standingOf, on-state}
-use Rattle.drift.specs.Exact.{Parameters, parametersOf, Exact, opened, exactReading, exactForecast, exactAfter, Expected, level-is, forecast-is, expected, startingFrom}
+use Rattle.drift.specs.Exact.{Parameters, parametersOf, Exact, exactOf, exactReading, exactForecast, exactAfter, Expected, level-is, forecast-is, expected, startingFrom}
 use Rattle.drift.specs.Limits.{distance, SeasonalBound, WithinLimit, Trendless, Claim, Opening}
 use Rattle.drift.specs.Components.{OneUnit, StepError, HalfUnit, skipped}
 use Rattle.drift.specs.ForecastErrors.{exactFrom, DampedBound}
 
--- ---- states, at place 0: a season of m places, opened by 18 where A + G is above 65,536; a damped trend
+-- ---- states, at place 0: a season of m places, exactOf by 18 where A + G is above 65,536; a damped trend
 abbrev pub seasonal : ℕ → ℕ → ℕ → ℤ → List ℤ → State
 seasonal m A G l values = stateOf (not (usualGains A 0 G)) 4 m A 0 G 0 l (pos 0) values 0 0 noScore
 
@@ -84,7 +84,7 @@ beside c s x [] = x
 beside c s x (k ∷ ks) = beside c (result s k .state) (exactAfter c x (result s k .event)) ks
 
 abbrev pub besideFrom : State → List Call → Exact
-besideFrom s calls = beside (parametersOf s) s (opened s) calls
+besideFrom s calls = beside (parametersOf s) s (exactOf s) calls
 
 -- how far the level is from L after so many readings 0 from the state `plain (pos 1)`, in which R leaves l at 1, by either rule, and L is halved by each
 abbrev pub apartAfter : ℕ → List Call → ℕ
@@ -105,7 +105,7 @@ pub record Attained : Type 0 where
   pub even-sixteen : 65536 * creepAcross 0 16 ≡ 65535 * 65536 ^ 32
   pub across : 65536 * creepAcross 8 8 ≡ 65535 * 65536 ^ 32
   -- one unit but for a 65,536th: d is 1 for 1/2, and R(A × e) is 1 for 1/2 and a bit
-  pub step : 65535 * 65536 ^ 2 ≤ 65536 * distance 2 (afterReading (damped 1 32768 (pos 32767) (pos 1)) (pos 1) .level) (exactReading (parametersOf (damped 1 32768 (pos 32767) (pos 1))) (opened (damped 1 32768 (pos 32767) (pos 1))) (pos 1) .L)
+  pub step : 65535 * 65536 ^ 2 ≤ 65536 * distance 2 (afterReading (damped 1 32768 (pos 32767) (pos 1)) (pos 1) .level) (exactReading (parametersOf (damped 1 32768 (pos 32767) (pos 1))) (exactOf (damped 1 32768 (pos 32767) (pos 1))) (pos 1) .L)
   -- half a unit at a missing reading: d is 1 for 1/2
   pub missing : 2 * distance 1 (afterMissing (damped 0 32768 (pos 0) (pos 1)) .level) (skipped (damped 0 32768 (pos 0) (pos 1)) .L) ≡ 1 * 65536 ^ 1
   -- h × (h + 1)/4: 1/2 at h = 1, and 18 but for 42 65,536ths at h = 8
@@ -190,16 +190,16 @@ pub record Shown : Type 0 where
   -- a step whose d is 1,000,000/65536 = 15.2.., rounded to 15
   pub step : StepError (damped 0 1 (pos 0) (pos 1000000)) (pos 0)
   pub opens : OpensTrendless opening
-  -- a state that 18 opened is an opening state too
+  -- a state that 18 exactOf is an opening state too
   pub opens-outside : OpensTrendless (creeping (pos 0))
   -- and so is one with multiplicative errors
   pub opens-relative : OpensTrendless relative
-  pub holds : ClaimOf opening (opened opening) calls
+  pub holds : ClaimOf opening (exactOf opening) calls
   -- ties went up before the switch and go to even after the list
   pub rule-before : tiesToEven (after opening (Reading (pos 5) ∷ InPlaceSwitch (followed (0x14 ∷ [])) ∷ []) .model) ≡ false
   pub rule-after : tiesToEven (after opening calls .model) ≡ true
   pub short : inPlaceCode (sliceOf opening (cut 90)) ≡ truncated
-  pub compares : compared (parametersOf opening) opening (opened opening) calls
+  pub compares : compared (parametersOf opening) opening (exactOf opening) calls
       ≡ ([], [])
       ∷ ([], [])
       ∷ (

@@ -1,8 +1,5 @@
 -- The run, computed.
-use mathlib.Core.Path.{refl, sym}
-use mathlib.Core.Bool.{false≢true}
-use mathlib.Core.List.{map}
-use native.Mathlib.Omega.{arith}
+use mathlib.Core.Path.{refl}
 use lib.Dec.{le→leb, lit<}
 use Rattle.calendars.specs.Calendars.{rising, disjoint}
 use Rattle.state.specs.Fixed.{R, share}
@@ -16,10 +13,9 @@ use Rattle.ets.specs.Calendars.{calendarCode, stepCodeOn, missingCodeOn, batchC
 use Rattle.forecasts.specs.Forecasts.{trendAt, trendLine, seasonAt, forecastOf, forecastCodeTo, forecastsCodeTo}
 use Rattle.forecasts.specs.Calendars.{indexFrom, forecastBy, forecastListBy, forecastCodeOn, forecastOn, forecastsCodeOn, forecastsOn, forecastCellsOn}
 use Rattle.traces.specs.Calls.{result, after}
-use Rattle.traces.specs.Operations.{on-state, perform}
-use Rattle.drift.specs.Exact.{exactDamped, exactResidualBy, adjusted, exactSeasonBy, exactTakeBy, exactBatchBy, exactTrendAt, exactLine, exactForecast, exactForecastBy, exactAfter, expectedLevelsBy, upTo, expected, besideAfter, expectedBy}
-use Rattle.drift.specs.Limits.{AtMost, WithinLimit, AllWithin}
-use Rattle.drift.specs.Pins.{OpensTrendless, beside, compared}
+use Rattle.drift.specs.Exact.{exactDamped, exactResidualBy, adjusted, exactSeasonBy, exactTakeBy, exactBatchBy, exactTrendAt, exactLine, exactForecast, exactForecastBy, exactAfter, expectedLevelsBy, upTo, expected}
+use Rattle.drift.specs.Limits.{AtMost}
+use Rattle.drift.specs.Pins.{beside, compared}
 use Rattle.drift_runs.specs.ClockRuns.{weekOn, ClocksWander}
 
 pub wander : ClocksWander

@@ -1,6 +1,6 @@
 -- Document 02, W-208: a computed run that needs the condition of the season's limit over clock changes.
-use Prim.Native.Nat.{ℕ, _+_, _*_, _^_}
-use mathlib.Core.Bool.{true, false}
+use Prim.Native.Nat.{_+_}
+use mathlib.Core.Bool.{true}
 use mathlib.Core.List.{List, [], _∷_, _++_}
 use mathlib.Core.Path.{_≡_}
 use lib.IntN.{ℤ, pos, negsuc}
@@ -10,10 +10,10 @@ use Rattle.state.specs.Scores.{noScore}
 use Rattle.state.specs.States.{stateOf}
 use Rattle.state.specs.declared.State.{State}
 use Rattle.forecasts.specs.Forecasts.{forecastOf}
-use Rattle.traces.specs.Calls.{Call, Reading, Batch, ReadingOn, MissingOn, BatchOn, ForecastOn, ForecastsOn, after}
-use Rattle.drift.specs.Exact.{parametersOf, Exact, exponent, opened, exactForecast, level-is, forecast-is}
-use Rattle.drift.specs.Limits.{SeasonalBound, WithinLimit}
-use Rattle.drift.specs.Pins.{seasonal, plain, standing, ClaimOf, OpensTrendless, besideFrom, compared}
+use Rattle.traces.specs.Calls.{Call, BatchOn, after}
+use Rattle.drift.specs.Exact.{parametersOf, exponent, exactForecast}
+use Rattle.drift.specs.Limits.{SeasonalBound}
+use Rattle.drift.specs.Pins.{OpensTrendless, besideFrom}
 
 -- ---- a run that needs it. Seven days, each of which skips place 2; α = 1/65536 and γ = 1, so that the season's limit is just above 72. Rounding adds half a fixed-point unit to
 -- the level with each of 161 readings; the other places' season values make up for it, but not that of place 2, which no step uses

@@ -2,7 +2,6 @@
 use mathlib.Core.List.{[], _∷_}
 use mathlib.Core.Path.{_≡_}
 use lib.IntN.{pos}
-use Rattle.state.specs.States.{noState}
 use Rattle.state.specs.declared.Answer.the-variants as answer-of
 use Rattle.ets.specs.Pins.{units, hourly, skips, repeats, beyond}
 use Rattle.forecasts.specs.Forecasts.{forecast, forecastCells}

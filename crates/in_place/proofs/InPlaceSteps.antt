@@ -41,7 +41,7 @@ use Rattle.slices.proofs.SliceLaws.{one-snapshot}
 use Rattle.snapshot.proofs.Decoded.{cell-read, cell-none, accepted-passes, length-decoded}
 use Rattle.saving.specs.Encoding.{modelBytes, encoded}
 use Rattle.in_place.specs.InPlace.{roomCode, rewriteCode, rejection, bytesAfter, numberAfter}
-use Rattle.in_place.specs.Facts.{aheadIn, Held, Found, advancedOn, seasonPut, stored}
+use Rattle.in_place.specs.Facts.{aheadIn, Held, Found, advancedOn, seasonPut, stepWritten}
 use Rattle.in_place.proofs.Patches.{snapshotOf, level-written, score-written, season-written, position-written}
 use Rattle.saving.proofs.Lengths.{length-model, length-encoded}
 use Rattle.round_trips.proofs.RoundTrip.{whole}
@@ -156,7 +156,7 @@ module _ (s : State) (ok : check s ≡ 0) (full : length (s .seasonal) ≡ 48) w
       rw (level-written head head-length (s .level) (s .trend) score cells (s .period) (s .index) (s .count) l b)
       (position-written head head-length l b score cells (s .period) (s .index) (s .count) (nextIndex (s .period) (s .index)) (s .count + 1))
 
-  pub step-written : (e : ℤ) (u : Update) (score : Score) → u .level ≡ newLevel (termsOf s) e → u .trend ≡ newTrend (termsOf s) e → u .season ≡ newSeason (termsOf s) e → stored (encoded s) (s .period) (s .index) (s .count) u score ≡ encoded (corrected s e score)
+  pub step-written : (e : ℤ) (u : Update) (score : Score) → u .level ≡ newLevel (termsOf s) e → u .trend ≡ newTrend (termsOf s) e → u .season ≡ newSeason (termsOf s) e → stepWritten (encoded s) (s .period) (s .index) (s .count) u score ≡ encoded (corrected s e score)
   step-written e u score el eb es =
       rw (el, eb, es, encoded-is s, encoded-is (corrected s e score), season-put (newSeason (termsOf s) e), seasons-are e, score-written head head-length (s .level) (s .trend) (s .score) (newSeasonal s e) (s .period) (s .index) (s .count) score)
       (moved-on score (newSeasonal s e) (newLevel (termsOf s) e) (newTrend (termsOf s) e))
@@ -198,7 +198,7 @@ module _ (d : List ℕ) (x : Checked) (h : Held d x) (e : List ℕ) (w : e ≡ e
       let n : length e ≡ sizeOf (decoded d .period) = ap length w ∙ length-encoded (decoded d) in
       rw (h .period, h .index) (record { size = omega arith; period = h .room .period; index = h .room .index })
 
-  pub step-stored : (y : ℤ) (u : Update) (score : Score) → u ≡ update (tiesToEven (decoded d .model)) (numbersOf (decoded d)) y → stepCode (decoded d) y ≡ 0 → score ≡ scoreAfter (decoded d .score) (squareAt (decoded d) y) → stored e (x .period) (x .index) (x .numbers .count) u score ≡ encoded (afterReading (decoded d) y)
+  pub step-stored : (y : ℤ) (u : Update) (score : Score) → u ≡ update (tiesToEven (decoded d .model)) (numbersOf (decoded d)) y → stepCode (decoded d) y ≡ 0 → score ≡ scoreAfter (decoded d .score) (squareAt (decoded d) y) → stepWritten e (x .period) (x .index) (x .numbers .count) u score ≡ encoded (afterReading (decoded d) y)
   step-stored y u score q z c =
       let s = decoded d in
       let k = direct s (h .passes) y z in

@@ -51,5 +51,5 @@ seasonPut d m p v = cond (eqb m 0) d (sets d (seasonAt true p) (seasonBytes p v)
 abbrev pub scorePut : List ℕ → Score → List ℕ
 scorePut d score = sets d scoreAt (scoreBytes score)
 
-abbrev pub stored : List ℕ → ℕ → ℕ → ℕ → Update → Score → List ℕ
-stored d m p n u score = advancedOn (scorePut (seasonPut d m p (u .season)) score) m p n (u .level) (u .trend)
+abbrev pub stepWritten : List ℕ → ℕ → ℕ → ℕ → Update → Score → List ℕ
+stepWritten d m p n u score = advancedOn (scorePut (seasonPut d m p (u .season)) score) m p n (u .level) (u .trend)

@@ -14,9 +14,9 @@ use saving::rewriting::rewrite_position;
 use saving::rewriting::rewrite_score;
 use saving::rewriting::rewrite_season;
 use saving::rewriting::rewrite_snapshot;
-use slices::opened;
 use slices::score_value;
 use slices::season_value;
+use slices::slice_numbers;
 use slices::state_value;
 use state::Answer;
 use state::SHORT_BUFFER;
@@ -38,7 +38,7 @@ ghost use Rattle.snapshot.specs.Snapshots.{decoded};
 ghost use Rattle.snapshot.specs.Facts.{Room};
 ghost use Rattle.saving.specs.Encoding.{encoded};
 ghost use Rattle.in_place.specs.InPlace.{rewriteCode, inPlaceStepCode, inPlaceStepBytes, inPlaceResidual, inPlaceMissingCode, inPlaceMissingBytes, inPlaceSwitchCode, inPlaceSwitchBytes, inPlaceForecastCode, inPlaceForecast};
-ghost use Rattle.in_place.specs.Facts.{aheadIn, movedOn, advancedOn, seasonPut, stored};
+ghost use Rattle.in_place.specs.Facts.{aheadIn, movedOn, advancedOn, seasonPut, stepWritten};
 
 // The rejection of a slice that is to be rewritten: its own, then 12 where there is no room for the form that is saved.
 fn rewrite_code(code: u8, m: u8, length: usize) -> u8
@@ -87,7 +87,7 @@ fn put_season(d: &mut [u8], m: u8, p: u8, v: i64)
 // The numbers that a step moved, in their places.
 fn store(d: &mut [u8], m: u8, p: u8, count: u64, u: Update, score: Score)
     requires { ⌜ Room true (now d) m p × (count < maxCount) ⌝ }
-    ensures { λ _. ⌜ now (d .exit) ≡ stored (now (d .entry)) m p count u score ⌝ }
+    ensures { λ _. ⌜ now (d .exit) ≡ stepWritten (now (d .entry)) m p count u score ⌝ }
 {
     put_season(d, m, p, u.season);
     rewrite_score(d, score);
@@ -100,7 +100,7 @@ pub fn step(snapshot: &mut [u8], reading: i32, residual: &mut i64) -> u8
     ensures bytes { λ _. ⌜ now (snapshot .exit) ≡ inPlaceStepBytes (now (snapshot .entry)) reading ⌝ }
     ensures number { λ _. ⌜ now (residual .exit) ≡ inPlaceResidual (now (snapshot .entry)) reading (now (residual .entry)) ⌝ }
 {
-    let x = opened(snapshot);
+    let x = slice_numbers(snapshot);
     let code = rewrite_code(x.code, x.period, snapshot.len());
     if code != 0 {
         return code;
@@ -124,7 +124,7 @@ pub fn missing(snapshot: &mut [u8]) -> u8
     ensures code { λ r. ⌜ r ≡ inPlaceMissingCode (now (snapshot .entry)) ⌝ }
     ensures bytes { λ _. ⌜ now (snapshot .exit) ≡ inPlaceMissingBytes (now (snapshot .entry)) ⌝ }
 {
-    let x = opened(snapshot);
+    let x = slice_numbers(snapshot);
     let code = rewrite_code(x.code, x.period, snapshot.len());
     if code != 0 {
         return code;
@@ -145,7 +145,7 @@ pub fn switch_to_even(snapshot: &mut [u8]) -> u8
     ensures code { λ r. ⌜ r ≡ inPlaceSwitchCode (now (snapshot .entry)) ⌝ }
     ensures bytes { λ _. ⌜ now (snapshot .exit) ≡ inPlaceSwitchBytes (now (snapshot .entry)) ⌝ }
 {
-    let x = opened(snapshot);
+    let x = slice_numbers(snapshot);
     let code = rewrite_code(x.code, x.period, snapshot.len());
     if code != 0 {
         return code;
@@ -175,7 +175,7 @@ pub fn forecast(snapshot: &[u8], horizon: u32, value: &mut i64) -> u8
     ensures code { λ r. ⌜ r ≡ inPlaceForecastCode (now (snapshot .entry)) horizon ⌝ }
     ensures number { λ _. ⌜ now (value .exit) ≡ inPlaceForecast (now (snapshot .entry)) horizon (now (value .entry)) ⌝ }
 {
-    let x = opened(snapshot);
+    let x = slice_numbers(snapshot);
     let code = x.code;
     if code != 0 {
         return code;

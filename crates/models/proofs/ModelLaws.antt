@@ -1,5 +1,5 @@
 -- The model byte: one test over all its values.
-use Prim.Native.Nat.{ℕ, _/_, _%_, _<_, _≤_}
+use Prim.Native.Nat.{ℕ, _%_, _<_, _≤_}
 use mathlib.Core.Path.{_≡_, refl, sym, _∙_}
 use mathlib.Core.Bool.{Bool, true, false, not, cond, _&&_, _||_, false≢true}
 use native.Mathlib.Decide.{decLe}
@@ -9,7 +9,7 @@ use lib.Dec.{eqb}
 use borrow.Author.Tests.{ne-eqb, eqb-true, eqb-false, not-true}
 use Rattle.integers.specs.Below.{allBelow}
 use Rattle.integers.proofs.Tests.{both, allBelow-at}
-use Rattle.models.specs.Models.{roundingOf, toUp, toAdditive, toEven, modelByte, validModel}
+use Rattle.models.specs.Models.{toUp, toAdditive, toEven, modelByte, validModel}
 
 same : Bool → Bool → Bool
 same a b = cond a b (not b)

@@ -1,10 +1,10 @@
 -- A command that is not the last answer: what it was, where it ends, and that another stream with the same bytes up to there answers it alike.
-use Prim.Native.Nat.{ℕ, zero, suc, _+_, _-_, _≤_, _<_}
+use Prim.Native.Nat.{ℕ, _+_, _≤_, _<_}
 use mathlib.Core.Path.{_≡_, refl, sym, ap, _∙_}
-use mathlib.Core.Bool.{Bool, true, false, cond, true≢false}
+use mathlib.Core.Bool.{Bool, true, false, true≢false}
 use mathlib.Core.List.{List, _++_}
 use native.Mathlib.Omega.{arith}
-use borrow.Author.Tests.{eqb-true, leb-false}
+use borrow.Author.Tests.{eqb-true}
 use lib.Dec.{eqb, leb}
 use lib.IntN.{ℤ}
 use lib.Ieee.{Float, binary64, toBits}
@@ -29,7 +29,7 @@ use Rattle.relative_errors.specs.declared.RelativeVariance.the-variants as rela
 use Rattle.layout.specs.Bytes.{AreBytes}
 use Rattle.layout.specs.CommandTable.{commandSize}
 use Rattle.layout.specs.Layout.{outsideIn}
-use Rattle.snapshot.specs.Snapshots.{openCode, openOffset, decoded, read}
+use Rattle.snapshot.specs.Snapshots.{openCode, openOffset, read}
 use Rattle.snapshot.proofs.Accepting.{accepted as is-accepted, accepted-size, opener-size}
 use Rattle.saving.specs.Encoding.{encoded}
 use Rattle.saving.specs.Saving.{save}
@@ -38,16 +38,15 @@ use Rattle.saving.proofs.ByteLaws.{bytes-drop}
 use Rattle.decoding.specs.Decoding.{commandCode, operands, decode}
 use Rattle.decoding.specs.declared.Command.{Command}
 use Rattle.decoding.specs.declared.Command.the-variants as command-of
-use Rattle.decoding.specs.declared.Decoded.{Decoded}
 use Rattle.decoding.proofs.DecodingLaws.{whole-command}
 use Rattle.replies.specs.declared.Reply.{Reply}
 use Rattle.replies.specs.declared.Reply.the-variants as reply-of
 use Rattle.replies.specs.Replies.{isLast}
 use Rattle.actions.specs.Actions.{byVariance, byRelative}
-use Rattle.commands.specs.Commands.{accepted, rejected, finish, restOffset, openSnapshot, takeReading, takeMissing, switchState, giveForecast, giveVariance, giveRelativeVariance, saveState, storeState, restoreState, act, nextCommand, perform}
+use Rattle.commands.specs.Commands.{accepted, rejected, finish, openSnapshot, takeReading, takeMissing, switchState, giveForecast, giveVariance, giveRelativeVariance, saveState, storeState, restoreState, act, nextCommand, perform}
 use Rattle.commands.specs.declared.Session.{Session}
 use Rattle.commands.specs.declared.Performed.{Performed}
-use Rattle.rollbacks.proofs.OwnBytes.{Again, again, part-same, decode-same}
+use Rattle.rollbacks.proofs.OwnBytes.{again, part-same, decode-same}
 
 -- ---- an accepted command's session stands right after it
 abbrev Ends : ℕ → Performed → Type 0

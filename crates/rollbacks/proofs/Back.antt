@@ -1,10 +1,10 @@
 -- Document 02, W-209: what follows 51 is answered as if all since 50 had never come.
-use Prim.Native.Nat.{ℕ, _+_, _-_, _≤_, _<_}
+use Prim.Native.Nat.{ℕ, _+_, _≤_, _<_}
 use mathlib.Core.Path.{_≡_, refl, sym, ap, _∙_, subst}
-use mathlib.Core.Bool.{Bool, true, false, cond}
-use mathlib.Core.List.{List, [], _∷_, _++_}
+use mathlib.Core.Bool.{Bool, true, false}
+use mathlib.Core.List.{List, _∷_, _++_}
 use native.Mathlib.Omega.{arith}
-use lib.ListN.{length, length-append, length-drop, take, drop}
+use lib.ListN.{length, length-append, take, drop}
 use lib.Seq.{length-take-le, take-at, drop-at}
 use Rattle.state.specs.declared.State.{State}
 use Rattle.state.specs.declared.Outcome.the-variants as outcome-of
@@ -19,7 +19,7 @@ use Rattle.streams.specs.Stream.{snapshotRoom, answersFrom}
 use Rattle.commands.specs.declared.Session.{Session}
 use Rattle.commands.specs.declared.Performed.{Performed}
 use Rattle.streams.proofs.StreamLaws.{next-goes, command-by-command}
-use Rattle.rollbacks.specs.Rollbacks.{Standing, begins, commandAt, answerAt, after, answersAt, Leads, none, more, anyCommand, KeptAndBack, laterSession, allLater, kept, restored, without, gap, Rollback, Rollbacks}
+use Rattle.rollbacks.specs.Rollbacks.{Standing, begins, answerAt, after, answersAt, Leads, none, more, KeptAndBack, laterSession, allLater, kept, restored, without, gap, Rollback, Rollbacks}
 use Rattle.rollbacks.proofs.Later.{answers-later, same-line}
 use Rattle.rollbacks.proofs.Accepted.{next-same, perform-same}
 use Rattle.rollbacks.proofs.Kept.{Fit, begins-fit, leads-fit, gone-keeps, after-store, names-hold, after-restore, names-stay}

@@ -13,14 +13,14 @@ use Rattle.layout.specs.CommandTable.{commandSize, isCommand, onlyInSnapshot, o
 use Rattle.snapshot.specs.Snapshots.{dueCode, modelCode, levelCode, scoreCode, positionCode, scanSeasons, scan, cellsAt, decoded, read}
 use Rattle.saving.specs.Encoding.{toBytes, modelBytes, levelBytes, scoreBytes, seasonBytes, seasonsBytes, positionBytes, encoded}
 use Rattle.checkpoints.specs.Checkpoints.{storeCode, store, storedBytes, isHeld, restoreCode, restore}
-use Rattle.decoding.specs.Decoding.{inPlace, commandCode, operands, decode}
+use Rattle.decoding.specs.Decoding.{allowedHere, commandCode, operands, decode}
 use Rattle.commands.specs.Commands.{start, finish, openSnapshot, takeReading, takeMissing, giveForecast, storeState, restoreState, perform, performCheckpoints}
 use Rattle.streams.specs.Stream.{admit, answersIn, answersFrom, answers}
 use Rattle.rollbacks.specs.Rollbacks.{begins, answerAt, after, none, more, KeptAndBack}
 use Rattle.rollbacks.specs.Pins.{repliesOf, holiday, Shown, Needed, Names, Pins}
 
 situation : KeptAndBack holiday 1
-unfolding R share allBelow sumOf sumOk check parametersCode noState dampedTrend seasonBy residual newLevel newTrend newSeason seasonalBy squareOf scoreAfter nextIndex missingCode advanced stepCodeBy step missing trendAt trendLine seasonAt forecastOf forecastCodeTo forecastTo fromBytes commandSize isCommand onlyInSnapshot opens dueCode modelCode levelCode scoreCode positionCode scanSeasons scan cellsAt decoded read toBytes modelBytes levelBytes scoreBytes seasonBytes seasonsBytes positionBytes encoded storeCode store storedBytes isHeld restoreCode restore inPlace commandCode operands decode start finish openSnapshot takeReading takeMissing giveForecast storeState restoreState perform performCheckpoints
+unfolding R share allBelow sumOf sumOk check parametersCode noState dampedTrend seasonBy residual newLevel newTrend newSeason seasonalBy squareOf scoreAfter nextIndex missingCode advanced stepCodeBy step missing trendAt trendLine seasonAt forecastOf forecastCodeTo forecastTo fromBytes commandSize isCommand onlyInSnapshot opens dueCode modelCode levelCode scoreCode positionCode scanSeasons scan cellsAt decoded read toBytes modelBytes levelBytes scoreBytes seasonBytes seasonsBytes positionBytes encoded storeCode store storedBytes isHeld restoreCode restore allowedHere commandCode operands decode start finish openSnapshot takeReading takeMissing giveForecast storeState restoreState perform performCheckpoints
 situation =
     let s = holiday in
     let a = after s begins in
@@ -40,16 +40,16 @@ situation =
     }
 
 needed : Needed
-unfolding repliesOf admit answersIn answersFrom answers R share allBelow sumOf sumOk check parametersCode noState dampedTrend seasonBy residual newLevel newTrend newSeason seasonalBy squareOf scoreAfter nextIndex missingCode advanced stepCodeBy step missing trendAt trendLine seasonAt forecastOf forecastCodeTo forecastTo fromBytes commandSize isCommand onlyInSnapshot opens dueCode modelCode levelCode scoreCode positionCode scanSeasons scan cellsAt decoded read toBytes modelBytes levelBytes scoreBytes seasonBytes seasonsBytes positionBytes encoded storeCode store storedBytes isHeld restoreCode restore inPlace commandCode operands decode start finish openSnapshot takeReading takeMissing giveForecast storeState restoreState perform performCheckpoints
+unfolding repliesOf admit answersIn answersFrom answers R share allBelow sumOf sumOk check parametersCode noState dampedTrend seasonBy residual newLevel newTrend newSeason seasonalBy squareOf scoreAfter nextIndex missingCode advanced stepCodeBy step missing trendAt trendLine seasonAt forecastOf forecastCodeTo forecastTo fromBytes commandSize isCommand onlyInSnapshot opens dueCode modelCode levelCode scoreCode positionCode scanSeasons scan cellsAt decoded read toBytes modelBytes levelBytes scoreBytes seasonBytes seasonsBytes positionBytes encoded storeCode store storedBytes isHeld restoreCode restore allowedHere commandCode operands decode start finish openSnapshot takeReading takeMissing giveForecast storeState restoreState perform performCheckpoints
 needed = record { kept = refl; never = refl }
 
 names : Names
-unfolding repliesOf admit answersIn answersFrom answers R share allBelow sumOf sumOk check parametersCode noState dampedTrend seasonBy residual newLevel newTrend newSeason seasonalBy squareOf scoreAfter nextIndex missingCode advanced stepCodeBy step missing trendAt trendLine seasonAt forecastOf forecastCodeTo forecastTo fromBytes commandSize isCommand onlyInSnapshot opens dueCode modelCode levelCode scoreCode positionCode scanSeasons scan cellsAt decoded read toBytes modelBytes levelBytes scoreBytes seasonBytes seasonsBytes positionBytes encoded storeCode store storedBytes isHeld restoreCode restore inPlace commandCode operands decode start finish openSnapshot takeReading takeMissing giveForecast storeState restoreState perform performCheckpoints
+unfolding repliesOf admit answersIn answersFrom answers R share allBelow sumOf sumOk check parametersCode noState dampedTrend seasonBy residual newLevel newTrend newSeason seasonalBy squareOf scoreAfter nextIndex missingCode advanced stepCodeBy step missing trendAt trendLine seasonAt forecastOf forecastCodeTo forecastTo fromBytes commandSize isCommand onlyInSnapshot opens dueCode modelCode levelCode scoreCode positionCode scanSeasons scan cellsAt decoded read toBytes modelBytes levelBytes scoreBytes seasonBytes seasonsBytes positionBytes encoded storeCode store storedBytes isHeld restoreCode restore allowedHere commandCode operands decode start finish openSnapshot takeReading takeMissing giveForecast storeState restoreState perform performCheckpoints
 names =
     record { group = refl; twice = refl; empty = refl; above = refl; above-back = refl; unopened = refl; unopened-back = refl; cut = refl }
 
 shown : Shown
-unfolding situation repliesOf admit answersIn answersFrom answers R share allBelow sumOf sumOk check parametersCode noState dampedTrend seasonBy residual newLevel newTrend newSeason seasonalBy squareOf scoreAfter nextIndex missingCode advanced stepCodeBy step missing trendAt trendLine seasonAt forecastOf forecastCodeTo forecastTo fromBytes commandSize isCommand onlyInSnapshot opens dueCode modelCode levelCode scoreCode positionCode scanSeasons scan cellsAt decoded read toBytes modelBytes levelBytes scoreBytes seasonBytes seasonsBytes positionBytes encoded storeCode store storedBytes isHeld restoreCode restore inPlace commandCode operands decode start finish openSnapshot takeReading takeMissing giveForecast storeState restoreState perform performCheckpoints
+unfolding situation repliesOf admit answersIn answersFrom answers R share allBelow sumOf sumOk check parametersCode noState dampedTrend seasonBy residual newLevel newTrend newSeason seasonalBy squareOf scoreAfter nextIndex missingCode advanced stepCodeBy step missing trendAt trendLine seasonAt forecastOf forecastCodeTo forecastTo fromBytes commandSize isCommand onlyInSnapshot opens dueCode modelCode levelCode scoreCode positionCode scanSeasons scan cellsAt decoded read toBytes modelBytes levelBytes scoreBytes seasonBytes seasonsBytes positionBytes encoded storeCode store storedBytes isHeld restoreCode restore allowedHere commandCode operands decode start finish openSnapshot takeReading takeMissing giveForecast storeState restoreState perform performCheckpoints
 shown = record { situation = situation; shorter = refl; gone = refl; stayed = refl }
 
 pub pins : Pins

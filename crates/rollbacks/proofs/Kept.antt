@@ -1,8 +1,8 @@
 -- What 50 leaves, what the commands after it leave of that, and what 51 brings back.
-use Prim.Native.Nat.{ℕ, zero, suc, _+_, _≤_, _<_}
+use Prim.Native.Nat.{ℕ, zero, suc}
 use mathlib.Core.Path.{_≡_, refl, sym, ap, _∙_}
-use mathlib.Core.Bool.{Bool, true, false, cond, true≢false, false≢true}
-use mathlib.Core.List.{List, [], _∷_, _++_}
+use mathlib.Core.Bool.{Bool, true, false, true≢false, false≢true}
+use mathlib.Core.List.{List}
 use native.Mathlib.Omega.{arith}
 use borrow.Author.Tests.{eqb-true}
 use lib.Dec.{eqb, leb, eqb·suc-zero}
@@ -12,9 +12,9 @@ use Rattle.state.specs.Rejections.{outcomeCode}
 use Rattle.state.specs.declared.State.{State}
 use Rattle.state.specs.declared.Outcome.the-variants as outcome-of
 use Rattle.layout.specs.Bytes.{AreBytes}
-use Rattle.layout.specs.CommandTable.{commandSize, opens}
+use Rattle.layout.specs.CommandTable.{opens}
 use Rattle.snapshot.specs.declared.Opened.{Opened}
-use Rattle.checkpoints.specs.Checkpoints.{noCheckpoints, storeCode, store, storedBytes, restoreCode, restore}
+use Rattle.checkpoints.specs.Checkpoints.{noCheckpoints, storeCode, store, restoreCode, restore}
 use Rattle.checkpoints.proofs.CheckpointLaws.{stores-back, nothing-at-first, restored-code}
 use Rattle.decoding.specs.Decoding.{commandCode, operands, decode}
 use Rattle.decoding.specs.declared.Command.{Command}
@@ -23,15 +23,15 @@ use Rattle.decoding.specs.declared.Decoded.{Decoded}
 use Rattle.decoding.proofs.DecodingLaws.{whole-command}
 use Rattle.replies.specs.declared.Reply.the-variants as reply-of
 use Rattle.replies.specs.Replies.{isLast}
-use Rattle.commands.specs.Commands.{accepted, rejected, storeState, restoreState, checkpointed, nextCommand, perform, performCheckpoints}
-use Rattle.streams.specs.Stream.{snapshotRoom, next}
+use Rattle.commands.specs.Commands.{accepted, storeState, restoreState, checkpointed, nextCommand, performCheckpoints}
+use Rattle.streams.specs.Stream.{snapshotRoom}
 use Rattle.streams.specs.Promises.{Sound, Holding}
 use Rattle.commands.specs.declared.Session.{Session}
 use Rattle.commands.specs.declared.Performed.{Performed}
 use Rattle.commands.proofs.CommandLaws.{performs, keeps}
 use Rattle.streams.proofs.StreamLaws.{start-sound, later-sound, active-is}
 use Rattle.streams.proofs.SessionLaws.{kept}
-use Rattle.rollbacks.specs.Rollbacks.{Standing, begins, commandAt, answerAt, after, Leads, none, more, isStore, anyCommand, notStore}
+use Rattle.rollbacks.specs.Rollbacks.{Standing, begins, commandAt, answerAt, after, Leads, none, more, isStore, notStore}
 
 -- ---- what stands passes its checks, and what the names hold
 pub record Fit (x : Standing) : Type 0 where

@@ -1,22 +1,17 @@
 -- An accepted command is answered by its own bytes alone: another stream with the same bytes up to its end answers it alike.
-use Prim.Native.Nat.{ℕ, zero, suc, _+_, _-_, _≤_, _<_}
+use Prim.Native.Nat.{ℕ, _+_, _-_, _≤_, _<_}
 use mathlib.Core.Path.{_≡_, refl, sym, ap, _∙_}
-use mathlib.Core.Bool.{Bool, true, false, cond, true≢false}
-use mathlib.Core.List.{List, [], _∷_, _++_, append-assoc}
+use mathlib.Core.Bool.{Bool, true, false, cond}
+use mathlib.Core.List.{List, _∷_, _++_, append-assoc}
 use native.Mathlib.Omega.{arith}
-use borrow.Author.Tests.{eqb-true, ne-eqb, le-leb, lt-leb, leb-false}
-use lib.Dec.{eqb, leb}
-use lib.IntN.{ℤ}
-use lib.Ieee.{Float}
-use lib.ListN.{length, length-drop, take, drop, getD, replicate, take-append-drop, length-append, List·getD-append}
-use lib.Seq.{length-take-le, take-take, take-add, take-at, drop-at, drop-append-add, getD-take, getD-drop}
-use Rattle.integers.proofs.Tests.{cond-elim}
+use borrow.Author.Tests.{eqb-true, le-leb, lt-leb}
+use lib.Dec.{eqb}
+use lib.ListN.{length, take, drop, getD, replicate, take-append-drop, List·getD-append}
+use lib.Seq.{length-take-le, take-take, take-add, take-at, drop-at, drop-append-add, getD-take}
 use Rattle.state.specs.Rejections.{outcomeCode}
 use Rattle.state.specs.Scores.{noScore}
 use Rattle.state.specs.declared.State.{State}
-use Rattle.state.specs.declared.Outcome.{Outcome}
 use Rattle.state.specs.declared.Outcome.the-variants as outcome-of
-use Rattle.state.specs.declared.Answer.{Answer}
 use Rattle.state.specs.declared.Answer.the-variants as answer-of
 use Rattle.state.proofs.Answers.{outcome-code}
 use Rattle.layout.specs.Bytes.{AreBytes, fromBytes, unsignedAt}
@@ -25,12 +20,10 @@ use Rattle.layout.specs.Layout.{endAt, scoredIn, periodIn, scoreIn}
 use Rattle.snapshot.specs.Snapshots.{openCode, openOffset, decoded, read}
 use Rattle.snapshot.specs.Promises.{oldForm}
 use Rattle.snapshot.specs.declared.Opened.{Opened}
-use Rattle.snapshot.proofs.Accepting.{accepted, accepted-size, opener-size}
+use Rattle.snapshot.proofs.Accepting.{accepted-size}
 use Rattle.snapshot.proofs.Decoded.{accepted-passes}
 use Rattle.snapshot.proofs.OldForms.{old-forms}
 use Rattle.saving.specs.Encoding.{encoded}
-use Rattle.round_trips.specs.Promises.{upgraded}
-use Rattle.saving.proofs.ByteLaws.{bytes-drop}
 use Rattle.decoding.specs.Decoding.{commandCode, operands, decode}
 use Rattle.round_trips.proofs.RoundTrip.{read-back, has-score, saved-back, upgraded-back, decoded-typed}
 

@@ -146,7 +146,7 @@ fn checked_at(s: &[u8]) -> Checked
 }
 
 // The numbers that a call goes by.
-pub fn opened(snapshot: &[u8]) -> Checked
+pub fn slice_numbers(snapshot: &[u8]) -> Checked
     ensures { λ r. ⌜ r ≡ openedIn (now (snapshot .entry)) ⌝ }
 {
     let code = slice_code(snapshot);

@@ -1,18 +1,18 @@
 -- An accepted snapshot with a score of zeros, its command 15 taken out, is an accepted old one with the same state.
-use Prim.Native.Nat.{ℕ, zero, suc, _+_, _-_, _*_, _≤_, _<_}
+use Prim.Native.Nat.{ℕ, zero, suc, _+_, _-_, _≤_, _<_}
 use mathlib.Core.Path.{_≡_, refl, sym, ap, _∙_}
-use mathlib.Core.Bool.{Bool, true, false, false≢true}
+use mathlib.Core.Bool.{true, false, false≢true}
 use mathlib.Core.List.{List, _++_}
 use native.Mathlib.Omega.{arith}
-use lib.ListN.{length, length-append, length-drop, take, drop, getD, set, List·getD-append}
+use lib.ListN.{length, length-append, length-drop, take, drop, getD, List·getD-append}
 use lib.Seq.{getD-take, getD-drop, getD-append-add, length-take-le, ext-getD}
 use mir.Syntax.{w64}
 use mir.Val.{toZ}
 use Rattle.state.specs.Scores.{noScore}
 use Rattle.layout.specs.Bytes.{fromBytes}
 use Rattle.layout.specs.CommandTable.{scoreLength}
-use Rattle.layout.specs.Layout.{scoreAt, seasonAt, positionAt, scoredIn, outsideIn, modelIn, periodIn, alphaIn, betaIn, gammaIn, phiIn, levelIn, trendIn, scoreIn, seasonIndexIn, seasonIn, indexIn, countIn}
-use Rattle.snapshot.specs.Snapshots.{openCode, cellsAt, decoded, read}
+use Rattle.layout.specs.Layout.{scoreAt, seasonAt, positionAt, scoredIn, modelIn, periodIn, alphaIn, betaIn, gammaIn, phiIn, levelIn, trendIn, scoreIn, seasonIndexIn, seasonIn, indexIn, countIn}
+use Rattle.snapshot.specs.Snapshots.{cellsAt, decoded, read}
 use Rattle.snapshot.specs.Promises.{OldForms}
 use Rattle.snapshot.specs.declared.reading.Scanned.{Scanned}
 use Rattle.snapshot.proofs.Accepting.{Model, Level, Season, Position, Accepted, accepted, accepts}

@@ -12,7 +12,7 @@ use Rattle.state.specs.Rejections.{out-of-place}
 use Rattle.state.specs.Switching.{switched}
 use Rattle.state.proofs.Switches.{switch-accepted}
 use Rattle.layout.specs.CommandTable.{commandSize, isCommand, onlyInSnapshot, opens}
-use Rattle.decoding.specs.Decoding.{inPlace, commandCode, operands, decode}
+use Rattle.decoding.specs.Decoding.{allowedHere, commandCode, operands, decode}
 use Rattle.decoding.proofs.DecodingLaws.{decode-stray}
 use Rattle.lines.specs.Lines.{fieldsBytes, lineOf}
 use Rattle.replies.specs.declared.Reply.the-variants as reply-of
@@ -22,11 +22,11 @@ use Rattle.commands.specs.declared.Session.{Session}
 
 module _ (s : List ℕ) (x : Session) (cs : List ℕ) (room : ℕ) (h : x .at < length s) (b : getD s (x .at) 0 ≡ 0x14) where
   closed : x .active ≡ false → perform s x cs room ≡ rejected out-of-place (x .at) x
-  unfolding perform decode commandCode inPlace isCommand commandSize onlyInSnapshot opens
+  unfolding perform decode commandCode allowedHere isCommand commandSize onlyInSnapshot opens
   closed e = rw (lt-leb (length s) (x .at) h, b, e)
 
   open-state : x .active ≡ true → Sound x → perform s x cs room ≡ accepted reply-of.Silent (x .at + 1) (switched (x .state))
-  unfolding perform decode commandCode inPlace isCommand commandSize onlyInSnapshot opens operands switchState
+  unfolding perform decode commandCode allowedHere isCommand commandSize onlyInSnapshot opens operands switchState
   open-state e p =
       let room-left : 1 ≤ length s - x .at = omega arith in
       rw (lt-leb (length s) (x .at) h, b, e, le-leb 1 (length s - x .at) room-left, switch-accepted (x .state) (p .passes e .checked))
@@ -52,16 +52,16 @@ module _ (s : List ℕ) (x : Session) (cs : List ℕ) (room : ℕ) (h : x .at < 
   abbrev b : ℕ
   b = getD s (x .at) 0
 
-  stray : isCommand b ≡ true → inPlace b (x .active) (x .state .model) ≡ false → perform s x cs room ≡ rejected out-of-place (x .at) x
+  stray : isCommand b ≡ true → allowedHere b (x .active) (x .state .model) ≡ false → perform s x cs room ≡ rejected out-of-place (x .at) x
   unfolding perform
   stray c e = rw (decode-stray s (x .at) (x .active) (x .state .model) h c e)
 
   additive : b ≡ 0x31 → hasRelativeErrors (x .state .model) ≡ true → perform s x cs room ≡ rejected out-of-place (x .at) x
-  unfolding inPlace
+  unfolding allowedHere
   additive q e = stray (rw q one-command) (rw (q, e) (and-false (not (onlyInSnapshot 0x31) && (x .active || opens 0x31))))
 
   relative : b ≡ 0x32 → hasRelativeErrors (x .state .model) ≡ false → perform s x cs room ≡ rejected out-of-place (x .at) x
-  unfolding inPlace
+  unfolding allowedHere
   relative q e = stray (rw q two-command) (rw (q, e) (and-false (not (onlyInSnapshot 0x32) && (x .active || opens 0x32))))
 
 pub error-kinds : ErrorKinds

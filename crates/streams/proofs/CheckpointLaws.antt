@@ -1,6 +1,6 @@
 -- Commands 50 and 51 in a stream, by the session and what the names hold.
 use Prim.Native.Nat.{ℕ, _+_, _-_, _≤_, _<_}
-use mathlib.Core.Path.{_≡_, refl, sym, ap, _∙_}
+use mathlib.Core.Path.{_≡_, refl, sym, _∙_}
 use mathlib.Core.Bool.{true, false}
 use mathlib.Core.Logic.{_⊎_, inl, inr}
 use mathlib.Core.List.{List}
@@ -12,7 +12,7 @@ use Rattle.state.specs.declared.Outcome.the-variants as outcome-of
 use Rattle.layout.specs.CommandTable.{commandSize, isCommand, onlyInSnapshot, opens}
 use Rattle.checkpoints.specs.Checkpoints.{slots, checkpointsSize, store, restoreCode, restore}
 use Rattle.checkpoints.proofs.CheckpointLaws.{stores-back, stored-code, no-slot, none-above, restored-outcome, restored-none}
-use Rattle.decoding.specs.Decoding.{inPlace, commandCode, operands, decoded, decode}
+use Rattle.decoding.specs.Decoding.{allowedHere, commandCode, operands, decoded, decode}
 use Rattle.decoding.specs.declared.Command.the-variants as command-of
 use Rattle.replies.specs.declared.Reply.the-variants as reply-of
 use Rattle.commands.specs.Commands.{accepted, rejected, storeState, restoreState, nextCommand, perform, performCheckpoints}
@@ -31,18 +31,18 @@ module _ (s : List ℕ) (x : Session) (d : List ℕ) (room slot : ℕ) (h : x .a
   whole = omega arith
 
   unopened : (first : ℕ) → (first ≡ 0x50) ⊎ (first ≡ 0x51) → b ≡ first → x .active ≡ false → perform s x d room ≡ rejected out-of-place (x .at) x
-  unfolding perform decode commandCode inPlace isCommand commandSize onlyInSnapshot opens
+  unfolding perform decode commandCode allowedHere isCommand commandSize onlyInSnapshot opens
   unopened first (inl f) q e = rw (lt-leb (length s) (x .at) begun, q, f, e)
   unopened first (inr f) q e = rw (lt-leb (length s) (x .at) begun, q, f, e)
 
   -- ---- with a state open
   module _ (e : x .active ≡ true) where
     command-50 : b ≡ 0x50 → nextCommand s x ≡ decoded (command-of.Store slot) (x .at + 2)
-    unfolding decode commandCode inPlace isCommand commandSize onlyInSnapshot opens operands
+    unfolding decode commandCode allowedHere isCommand commandSize onlyInSnapshot opens operands
     command-50 q = rw (lt-leb (length s) (x .at) begun, q, e, le-leb 2 (length s - x .at) whole, operand)
 
     command-51 : b ≡ 0x51 → nextCommand s x ≡ decoded (command-of.Restore slot) (x .at + 2)
-    unfolding decode commandCode inPlace isCommand commandSize onlyInSnapshot opens operands
+    unfolding decode commandCode allowedHere isCommand commandSize onlyInSnapshot opens operands
     command-51 q = rw (lt-leb (length s) (x .at) begun, q, e, le-leb 2 (length s - x .at) whole, operand)
 
     perform-50 : b ≡ 0x50 → perform s x d room ≡ storeState x (x .at + 2) slot (length d)

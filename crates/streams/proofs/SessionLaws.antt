@@ -1,19 +1,17 @@
 -- The states of a session and those that names hold pass their checks.
 use Prim.Native.Nat.{ℕ, zero, suc, _+_}
 use mathlib.Core.Path.{_≡_, refl, sym, ap, _∙_}
-use mathlib.Core.Bool.{true, false, false≢true, cond}
 use mathlib.Core.List.{List}
-use native.Mathlib.Omega.{arith}
 use native.Mathlib.Decide.{ℕ-discrete}
-use borrow.Author.Tests.{eqb-true, leb-false}
+use borrow.Author.Tests.{eqb-true}
 use lib.Dec.{eqb, leb, eqb·suc-zero}
 use lib.ListN.{length, getD}
 use lib.Seq.{length-sets}
 use Rattle.integers.proofs.Tests.{cond-elim}
-use Rattle.state.specs.Rejections.{outcomeCode, accepting}
+use Rattle.state.specs.Rejections.{outcomeCode}
 use Rattle.state.specs.declared.State.{State}
 use Rattle.layout.specs.Bytes.{AreBytes}
-use Rattle.layout.specs.CommandTable.{commandSize, opens}
+use Rattle.layout.specs.CommandTable.{opens}
 use Rattle.snapshot.specs.declared.Opened.{Opened}
 use Rattle.saving.specs.Encoding.{encoded}
 use Rattle.checkpoints.specs.Checkpoints.{slotAt, storeCode, storedBytes, restoreCode, restore}
@@ -23,7 +21,7 @@ use Rattle.decoding.specs.declared.Command.{Command}
 use Rattle.decoding.specs.declared.Command.the-variants as command-of
 use Rattle.decoding.specs.declared.Decoded.{Decoded}
 use Rattle.decoding.proofs.DecodingLaws.{whole-command}
-use Rattle.commands.specs.Commands.{start, checkpointed, nextCommand, performCheckpoints}
+use Rattle.commands.specs.Commands.{checkpointed, nextCommand, performCheckpoints}
 use Rattle.streams.specs.Promises.{Passes, Sound, Holding, Sessions}
 use Rattle.commands.specs.declared.Session.{Session}
 use Rattle.streams.proofs.StreamLaws.{start-sound, later-sound, active-is}

@@ -36,7 +36,7 @@ use Rattle.saving.specs.Encoding.{encoded}
 use Rattle.saving.specs.Saving.{save, saveCode, savedBytes}
 use Rattle.saving.proofs.ByteLaws.{bytes-drop}
 use Rattle.round_trips.proofs.RoundTrip.{decoded-typed}
-use Rattle.checkpoints.specs.Checkpoints.{noCheckpoints, storeCode, store, restoreCode, restore}
+use Rattle.checkpoints.specs.Checkpoints.{noCheckpoints, storeCode, store, restoreCode}
 use Rattle.checkpoints.proofs.CheckpointLaws.{restored-outcome}
 use Rattle.snapshot.proofs.Accepting.{accepted-size}
 use Rattle.snapshot.proofs.Decoded.{accepted-passes}

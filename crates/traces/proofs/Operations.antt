@@ -22,7 +22,7 @@ use Rattle.checkpoints.specs.Checkpoints.{slotAt, slotIn, noCheckpoints, storeC
 use Rattle.checkpoints.specs.Promises.{StoredBack}
 use Rattle.checkpoints.proofs.CheckpointLaws.{stored-is, stores-back, nothing-at-first}
 use Rattle.traces.specs.Laws.{Passing}
-use Rattle.traces.specs.Operations.{Standing, standingOf, Operation, on-state, Store, Restore, Open, perform, AllPassing, answeredBy, isRejected, OperationLaws}
+use Rattle.traces.specs.Operations.{Standing, standingOf, Operation, on-state, Store, Restore, Open, operate, AllPassing, answeredBy, isRejected, OperationLaws}
 use Rattle.traces.proofs.Works.{by-code}
 use Rattle.traces.proofs.Lists.{call-laws}
 
@@ -82,8 +82,8 @@ first : (s : State) → Passing s → AllPassing (standingOf s)
 first s w = record { state = w; checkpoints = held-first PassingBeside (λ slot. 0) }
 
 module _ (a : Standing) (w : AllPassing a) where
-  stays : (o : Operation) → AllPassing (perform a o .standing)
-  unfolding perform
+  stays : (o : Operation) → AllPassing (operate a o .standing)
+  unfolding operate
   stays (on-state k) = record { state = call-laws (a .state) (w .state) k .stays; checkpoints = w .checkpoints }
   stays (Store slot) =
       record {
@@ -101,8 +101,8 @@ module _ (a : Standing) (w : AllPassing a) where
         checkpoints = w .checkpoints;
       }
 
-  counted : (o : Operation) → length (perform a o .numbers) ≡ answeredBy (perform a o .notice)
-  unfolding perform
+  counted : (o : Operation) → length (operate a o .numbers) ≡ answeredBy (operate a o .notice)
+  unfolding operate
   counted (on-state k) = call-laws (a .state) (w .state) k .counted
   counted (Store slot) = refl
   counted (Restore slot) = refl
@@ -112,8 +112,8 @@ not-true : (b : Bool) → not b ≡ true → b ≡ false
 not-true true e = absurd (false≢true e)
 not-true false e = refl
 
-rejected : (a : Standing) (o : Operation) → isRejected (perform a o .notice) ≡ true → perform a o .standing ≡ a
-unfolding perform storedBytes
+rejected : (a : Standing) (o : Operation) → isRejected (operate a o .notice) ≡ true → operate a o .standing ≡ a
+unfolding operate storedBytes
 rejected a (on-state k) e = absurd (false≢true e)
 rejected a (Store slot) e = rw (not-true (eqb (storeCode (a .state) slot (length (a .checkpoints))) 0) e)
 rejected a (Restore slot) e = rw (not-true (eqb (restoreCode slot (a .checkpoints)) 0) e)

@@ -36,7 +36,7 @@ pub data Operation : Type 0 where
 -- what one who sees no state but those that are opened is told
 pub data Notice : Type 0 where
   called : (e : Event) → Notice
-  stored : (slot : ℕ) (accepted : Bool) → Notice
+  storing : (slot : ℕ) (accepted : Bool) → Notice
   restored : (slot : ℕ) (accepted : Bool) → Notice
   opening : (t : State) (accepted : Bool) → Notice
 
@@ -50,16 +50,16 @@ abbrev pub done : State → List ℕ → Notice → List ℤ → Done
 done s d notice numbers = record { standing = record { state = s; checkpoints = d }; notice = notice; numbers = numbers }
 
 -- going back and opening leave the slots as they are, and a rejected one the state too
-unfoldable pub perform : Standing → Operation → Done
-perform a (on-state k) =
+unfoldable pub operate : Standing → Operation → Done
+operate a (on-state k) =
     let r = result (a .state) k in done (r .state) (a .checkpoints) (called (r .event)) (r .numbers)
-perform a (Store slot) =
+operate a (Store slot) =
     let d = a .checkpoints in
-    done (a .state) (storedBytes (a .state) slot d) (stored slot (eqb (storeCode (a .state) slot (length d)) 0)) []
-perform a (Restore slot) =
+    done (a .state) (storedBytes (a .state) slot d) (storing slot (eqb (storeCode (a .state) slot (length d)) 0)) []
+operate a (Restore slot) =
     let accepted = eqb (restoreCode slot (a .checkpoints)) 0 in
     done (cond accepted (restore slot (a .checkpoints) .state) (a .state)) (a .checkpoints) (restored slot accepted) []
-perform a (Open bytes _) =
+operate a (Open bytes _) =
     let accepted = eqb (openCode bytes) 0 in
     done (cond accepted (read bytes .state) (a .state)) (a .checkpoints) (opening (read bytes .state) accepted) []
 
@@ -72,22 +72,22 @@ pub record AllPassing (a : Standing) : Type 0 where
 -- the numbers that a call answered; keeping, going back and opening answer none
 abbrev pub answeredBy : Notice → ℕ
 answeredBy (called e) = filled e
-answeredBy (stored slot accepted) = 0
+answeredBy (storing slot accepted) = 0
 answeredBy (restored slot accepted) = 0
 answeredBy (opening t accepted) = 0
 
 -- a 50, a 51 or a group was rejected (what a rejected call leaves is the call's own affair: a halted batch moved the state)
 abbrev pub isRejected : Notice → Bool
 isRejected (called e) = false
-isRejected (stored slot accepted) = not accepted
+isRejected (storing slot accepted) = not accepted
 isRejected (restored slot accepted) = not accepted
 isRejected (opening t accepted) = not accepted
 
 -- the next operation finds such a state and such slots again, after a rejected one the same
 pub record OperationLaw (a : Standing) (o : Operation) : Type 0 where
-  pub stays : AllPassing (perform a o .standing)
-  pub counted : length (perform a o .numbers) ≡ answeredBy (perform a o .notice)
-  pub rejected : isRejected (perform a o .notice) ≡ true → perform a o .standing ≡ a
+  pub stays : AllPassing (operate a o .standing)
+  pub counted : length (operate a o .numbers) ≡ answeredBy (operate a o .notice)
+  pub rejected : isRejected (operate a o .notice) ≡ true → operate a o .standing ≡ a
 
 pub record OperationLaws : Type 0 where
   pub first : (s : State) → Passing s → AllPassing (standingOf s)

@@ -7,7 +7,7 @@ use native.Mathlib.Omega.{arith}
 use native.Mathlib.Nat.{mod-lt}
 use native.Mathlib.Decide.{decLe, ℕ-discrete}
 use lib.Dec.{eqb}
-use lib.ListN.{length, getD, set, drop, take, replicate, length-append, length-set, length-replicate, getD-replicate, List·getD-append}
+use lib.ListN.{length, getD, set, drop, replicate, length-append, length-set, length-replicate, getD-replicate, List·getD-append}
 use lib.Seq.{ext-getD, drop-cons, set-at, set-append-left, drop-at, length-front, length-take-le, getD-at, getD-set-same, getD-set-other, take-at}
 use borrow.Author.Tests.{eq-eqb, ne-eqb}
 use Rattle.integers.specs.Totals.{total}

@@ -3,7 +3,6 @@ use Prim.Native.Nat.{_+_, _-_}
 use mathlib.Core.Path.{_≡_, sym, ap, _∙_}
 use native.Mathlib.Omega.{arith}
 use borrow.Author.Needs.{needs}
-use lib.ListN.{take, drop}
 use Rattle.snapshot.specs.Snapshots.{read}
 use Rattle.checkpoints.specs.Checkpoints.{slotSize, slotIn}
 use Rattle.checkpoints.proofs.CheckpointLaws.{none-above, none-short, found, found-none}

@@ -1,11 +1,10 @@
 -- `decoding::decode` meets its contract.
 use borrow.Author.Needs.{needs}
 use Rattle.decoding.proofs.DecodingLaws.{table-bytes, table-rejected, decode-end, decode-unknown, decode-stray, decode-short, decode-whole}
-use Rattle.decoding.specs.Decoding.{inPlace}
+use Rattle.decoding.specs.Decoding.{allowedHere}
 use Rattle.layout.specs.CommandTable.{commandSize, isCommand}
 use lib.ListN.{getD}
 use borrow.Author.Tests.{not-true, not-false}
-use native.Mathlib.Omega.{arith}
 use mathlib.Core.Path.{_≡_, sym, _∙_}
 use mathlib.Core.Bool.{true}
 use Rattle.decoding.proofs.decode.Statement.{statement}
@@ -15,18 +14,18 @@ returns : tie.Need-returns
 returns c = sym (decode-end _ _ _ _ (c .if1 .taken))
 
 -- the byte begins a command, and its length is the table's
-table-is : (o : tie.After-in-place) → let a = o .before .before .before .before .before .before .before .before .args in
+table-is : (o : tie.After-allowed-here) → let a = o .before .before .before .before .before .before .before .before .args in
     (isCommand (getD (a .s .now) (a .at) 0) ≡ true) × (o .before .before .size .given .0 .0 ≡ commandSize (getD (a .s .now) (a .at) 0))
 table-is o = table-bytes _ _ (sym (o .before .before .before .before .command-length .ensures) ∙ o .before .before .size .given .1)
 
 returns-2 : tie.Need-returns-2
 returns-2 c =
     let o = c .before in
-    sym (decode-stray _ _ _ _ (o .before .before .before .before .before .before .if1 .left) (table-is o .0) (not-true _ (rw (o .in-place .ensures) at (c .if2 .taken))))
+    sym (decode-stray _ _ _ _ (o .before .before .before .before .before .before .if1 .left) (table-is o .0) (not-true _ (rw (o .allowed-here .ensures) at (c .if2 .taken))))
 
 -- and it is in its place
-due : (c : tie.Else2) → let a = c .before .before .before .before .before .before .before .before .before .args in inPlace (getD (a .s .now) (a .at) 0) (a .active) (a .model) ≡ true
-due c = not-false _ (rw (c .before .in-place .ensures) at (c .if2 .left))
+due : (c : tie.Else2) → let a = c .before .before .before .before .before .before .before .before .before .args in allowedHere (getD (a .s .now) (a .at) 0) (a .active) (a .model) ≡ true
+due c = not-false _ (rw (c .before .allowed-here .ensures) at (c .if2 .left))
 
 returns-3 : tie.Need-returns-3
 returns-3 c =

@@ -6,7 +6,6 @@ use native.Mathlib.Omega.{arith}
 use mir.Syntax.{w64}
 use Rattle.integers.proofs.Difference.{back}
 use Rattle.fields.specs.Fields.{cellsAt}
-use borrow.Author.Needs.{needs}
 use Rattle.fields.proofs.whole_cells.Statement.{statement}
 use Rattle.fields.proofs.whole_cells.Tie as tie
 

@@ -33,17 +33,17 @@ unfolding inPlaceForecast
 put d h old e = rw (← e)
 
 -- the slice and the horizon
-module _ (c : tie.After-opened) where
+module _ (c : tie.After-slice-numbers) where
   abbrev d : List ℕ
   d = c .before .before .args .snapshot .now
 
   abbrev h : ℕ
   h = c .before .before .args .horizon
 
-  goes-by : Found d (c .opened .result)
-  goes-by = found d (c .opened .result) (c .before .shared-slice-known .given) (c .opened .ensures)
+  goes-by : Found d (c .slice-numbers .result)
+  goes-by = found d (c .slice-numbers .result) (c .before .shared-slice-known .given) (c .slice-numbers .ensures)
 
-held : (c : tie.Else1) → Held (d (c .before)) (c .before .opened .result)
+held : (c : tie.Else1) → Held (d (c .before)) (c .before .slice-numbers .result)
 held c = holds (d (c .before)) _ (goes-by (c .before)) (c .if1 .left)
 
 module _ (c : tie.After-forecast-from) where
@@ -53,7 +53,7 @@ module _ (c : tie.After-forecast-from) where
   abbrev q : tie.Else1
   q = a .before .before
 
-  abbrev o : tie.After-opened
+  abbrev o : tie.After-slice-numbers
   o = q .before
 
   abbrev s : State
@@ -67,7 +67,7 @@ module _ (c : tie.After-forecast-from) where
 
   forecasted : c .forecast-from .result ≡ forecastFrom (tiesToEven (s .model)) (s .level) (s .phi) (s .trend) v (h o)
   forecasted =
-      let n = o .opened .result .numbers in
+      let n = o .slice-numbers .result .numbers in
       let e = held q .numbers in
       let t = c .before .struct-told2 .given in
       let l = back w64 (n .level) (t .1 .1 .1 .1 .0 .1) ∙ ap (λ (n : Numbers). n .level) e in
@@ -89,7 +89,7 @@ module _ (c : tie.After-forecast-from) where
   unfolding inPlaceForecastCode
   told n z = is-read (d o) _ (goes-by o) (forecastCode s (h o)) (q .if1 .left) n (sym z ∙ code-is)
 
-unopened : (c : tie.Then1) → c .before .opened .result .code ≡ inPlaceForecastCode (d (c .before)) (h (c .before))
+unopened : (c : tie.Then1) → c .before .slice-numbers .result .code ≡ inPlaceForecastCode (d (c .before)) (h (c .before))
 unfolding inPlaceForecastCode
 unopened c =
     not-read (d (c .before)) _ (goes-by (c .before)) (forecastCode (decoded (d (c .before))) (h (c .before))) (c .if1 .taken)

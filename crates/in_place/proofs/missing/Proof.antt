@@ -30,8 +30,8 @@ module _ (c : tie.After-rewrite-code) where
   abbrev d : List ℕ
   d = c .before .before .before .before .args .snapshot .now
 
-  goes-by : Found d (c .before .opened .result)
-  goes-by = found d (c .before .opened .result) (c .before .before .before .slice-known .given) (c .before .opened .ensures)
+  goes-by : Found d (c .before .slice-numbers .result)
+  goes-by = found d (c .before .slice-numbers .result) (c .before .before .before .slice-known .given) (c .before .slice-numbers .ensures)
 
   rewritable : c .rewrite-code .result ≡ rewriteCode d
   rewritable = rewrite-is d _ goes-by _ (c .rewrite-code .ensures)
@@ -40,7 +40,7 @@ module _ (c : tie.After-update-missing) where
   abbrev k : tie.After-rewrite-code
   k = c .before .before .before
 
-  held : Held (d k) (k .before .opened .result)
+  held : Held (d k) (k .before .slice-numbers .result)
   held = holds (d k) _ (goes-by k) (goes-by k .code ∙ rewrite-facts (d k) _ (rewritable k) (c .before .before .if1 .left) .0)
 
   update-is : c .update-missing .result ≡ updateMissing (tiesToEven (decoded (d k) .model)) (numbersOf (decoded (d k)))
@@ -90,7 +90,7 @@ returns-3 c =
     let i = r .before .before in
     let u = i .before in
     let q = k u in
-    let x = q .before .opened .result in
+    let x = q .before .slice-numbers .result in
     let n = u .update-missing .result in
     let t = w .before .struct-told2 .given in
     let z = sym (code-is u) ∙ i .if2 .left in

@@ -41,8 +41,8 @@ module _ (c : tie.After-rewrite-code) where
   abbrev value : State → ℤ
   value s = residualOf s y
 
-  goes-by : Found d (c .before .opened .result)
-  goes-by = found d (c .before .opened .result) (c .before .before .before .slice-known .given) (c .before .opened .ensures)
+  goes-by : Found d (c .before .slice-numbers .result)
+  goes-by = found d (c .before .slice-numbers .result) (c .before .before .before .slice-known .given) (c .before .slice-numbers .ensures)
 
   rewritable : c .rewrite-code .result ≡ rewriteCode d
   rewritable = rewrite-is d _ goes-by _ (c .rewrite-code .ensures)
@@ -51,7 +51,7 @@ module _ (c : tie.After-update) where
   abbrev k : tie.After-rewrite-code
   k = c .before .before .before
 
-  held : Held (d k) (k .before .opened .result)
+  held : Held (d k) (k .before .slice-numbers .result)
   held = holds (d k) _ (goes-by k) (goes-by k .code ∙ rewrite-facts (d k) _ (rewritable k) (c .before .before .if1 .left) .0)
 
   update-is : c .update .result ≡ update (tiesToEven (decoded (d k) .model)) (numbersOf (decoded (d k))) (y k)

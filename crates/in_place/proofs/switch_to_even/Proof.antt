@@ -27,8 +27,8 @@ module _ (c : tie.After-rewrite-code) where
   abbrev d : List ℕ
   d = c .before .before .before .before .args .snapshot .now
 
-  goes-by : Found d (c .before .opened .result)
-  goes-by = found d (c .before .opened .result) (c .before .before .before .slice-known .given) (c .before .opened .ensures)
+  goes-by : Found d (c .before .slice-numbers .result)
+  goes-by = found d (c .before .slice-numbers .result) (c .before .before .before .slice-known .given) (c .before .slice-numbers .ensures)
 
   rewritable : c .rewrite-code .result ≡ rewriteCode d
   rewritable = rewrite-is d _ goes-by _ (c .rewrite-code .ensures)

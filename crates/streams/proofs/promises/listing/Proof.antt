@@ -11,7 +11,7 @@ use Rattle.weights.specs.Weights.{dampingSum, trendTerm, seasonTerm, coefficien
 use Rattle.layout.specs.Bytes.{fromBytes}
 use Rattle.layout.specs.CommandTable.{commandSize, isCommand, onlyInSnapshot, opens}
 use Rattle.snapshot.specs.Snapshots.{dueCode, modelCode, levelCode, scoreCode, positionCode, scanSeasons, scan, cellsAt, decoded, read}
-use Rattle.decoding.specs.Decoding.{inPlace, commandCode, operands, decode}
+use Rattle.decoding.specs.Decoding.{allowedHere, commandCode, operands, decode}
 use Rattle.lines.specs.Lines.{digits, digitCount, decimal, signedDecimal, fieldsBytes, lineOf}
 use Rattle.commands.specs.Commands.{start, finish, openSnapshot, takeReading, giveForecast, giveVariance, perform}
 use Rattle.streams.specs.Stream.{admit, answersIn, answersFrom, answers, lineAfter, textOf, text}
@@ -19,7 +19,7 @@ use Rattle.streams.proofs.promises.listing.Statement.{statement}
 use Rattle.streams.proofs.promises.listing.Tie as tie
 
 returns : tie.Need-returns
-unfolding R share allBelow sumOf sumOk check parametersCode noState dampedTrend seasonBy residual newLevel newTrend newSeason seasonalBy squareOf scoreAfter nextIndex missingCode stepCodeBy step trendAt trendLine seasonAt forecastOf forecastCodeTo forecastTo dampingSum trendTerm seasonTerm coefficient squares weightOf errorsCode weight variance fromBytes commandSize isCommand onlyInSnapshot opens dueCode modelCode levelCode scoreCode positionCode scanSeasons scan cellsAt decoded read digits digitCount decimal signedDecimal fieldsBytes lineOf inPlace commandCode operands decode start finish openSnapshot takeReading giveForecast giveVariance perform admit answersIn answersFrom answers lineAfter textOf text
+unfolding R share allBelow sumOf sumOk check parametersCode noState dampedTrend seasonBy residual newLevel newTrend newSeason seasonalBy squareOf scoreAfter nextIndex missingCode stepCodeBy step trendAt trendLine seasonAt forecastOf forecastCodeTo forecastTo dampingSum trendTerm seasonTerm coefficient squares weightOf errorsCode weight variance fromBytes commandSize isCommand onlyInSnapshot opens dueCode modelCode levelCode scoreCode positionCode scanSeasons scan cellsAt decoded read digits digitCount decimal signedDecimal fieldsBytes lineOf allowedHere commandCode operands decode start finish openSnapshot takeReading giveForecast giveVariance perform admit answersIn answersFrom answers lineAfter textOf text
 returns c = refl
 
 pub listing-spec : {M : Type 1} → statement M
