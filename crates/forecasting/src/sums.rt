@@ -10,7 +10,7 @@ ghost use mathlib.Core.List.{_++_};
 ghost use Prim.Native.Nat.{_≤_, _<_};
 ghost use lib.ListN.{length, drop};
 ghost use Rattle.integers.specs.Bounds.{Within};
-ghost use Rattle.state.specs.Fixed.{share};
+ghost use Rattle.state.specs.Fixed.{share, maxValue};
 ghost use Rattle.calendars.specs.Calendars.{calendarOf};
 ghost use Rattle.state.specs.States.{check};
 ghost use Rattle.state.specs.Valid.{Valid};
@@ -33,7 +33,7 @@ fn share(even: bool, a: u32, x: i64) -> i64
 
 // The level and the trends of h steps.
 pub fn trend_line(even: bool, level: i64, phi: u32, trend: i64, h: u32) -> i64
-    requires { ⌜ (phi ≤ 65536) × Within 1099511627776 level × Within 1099511627776 trend × (h ≤ 512) ⌝ }
+    requires { ⌜ (phi ≤ 65536) × Within maxValue level × Within maxValue trend × (h ≤ 512) ⌝ }
     ensures value { λ r. ⌜ r ≡ trendLine even level phi trend h ⌝ }
     ensures bound { λ r. ⌜ Within 564049465049088 r ⌝ }
 {
@@ -49,7 +49,7 @@ pub fn trend_line(even: bool, level: i64, phi: u32, trend: i64, h: u32) -> i64
 pub fn season_at(s: State, h: u32) -> i64
     requires { ⌜ Valid s × (1 ≤ h) × (h ≤ 512) ⌝ }
     ensures value { λ r. ⌜ r ≡ seasonAt s h ⌝ }
-    ensures bound { λ r. ⌜ Within 1099511627776 r ⌝ }
+    ensures bound { λ r. ⌜ Within maxValue r ⌝ }
 {
     if !has_season(s.model) {
         return 0;

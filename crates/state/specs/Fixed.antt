@@ -14,8 +14,11 @@ abbrev pub isReading : ℤ → Bool
 isReading y = within 1000000 y
 
 -- so e = 65536 × y − (l + d + s) is from −3,364,070,883,328 to that number
+abbrev pub maxResidual : ℕ
+maxResidual = 3364070883328
+
 abbrev pub isResidual : ℤ → Bool
-isResidual e = within 3364070883328 e
+isResidual e = within maxResidual e
 
 -- the paper's mark, −2,147,483,648: the sentinel of a missing reading in a slice
 abbrev pub isSentinel : ℤ → Bool
@@ -23,8 +26,11 @@ isSentinel (pos n) = false
 isSentinel (negsuc n) = eqb n 2147483647
 
 -- level, trend and season values are from −2^40 to 2^40
+abbrev pub maxValue : ℕ
+maxValue = 1099511627776
+
 abbrev pub inRange : ℤ → Bool
-inRange v = within 1099511627776 v
+inRange v = within maxValue v
 
 abbrev pub isZero : ℤ → Bool
 isZero (pos n) = eqb n 0
@@ -33,6 +39,13 @@ isZero (negsuc n) = false
 -- the count of steps is at most 2^48
 abbrev pub maxCount : ℕ
 maxCount = 281474976710656
+
+-- a word of 64 bits, and the square of R(e), at most 2^52
+abbrev pub wordSize : ℕ
+wordSize = 18446744073709551616
+
+abbrev pub maxSquare : ℕ
+maxSquare = 4503599627370496
 
 -- R(v): v/65536 to the nearest whole number. A tie goes up: the greatest whole number not above (v + 32768)/65536; or (even) to the even number: one less is
 -- added where the greatest whole number not above v/65536 is even

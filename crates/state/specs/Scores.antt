@@ -2,6 +2,7 @@
 use Prim.Native.Nat.{ℕ, _+_, _*_}
 use mathlib.Core.Bool.{Bool, _&&_}
 use lib.Dec.{leb}
+use Rattle.state.specs.Fixed.{maxSquare, wordSize}
 use Rattle.state.specs.declared.Score.{Score}
 
 -- the real readings, and the high and the low word of the sum
@@ -14,11 +15,11 @@ noScore = scoreOf 0 0 0
 
 -- the sum of the squares of R(e) over the real readings: high × 2^64 + low
 unfoldable pub sumOf : Score → ℕ
-sumOf s = s .high * 18446744073709551616 + s .low
+sumOf s = s .high * wordSize + s .low
 
 -- the sum is at most readings × 2^52
 unfoldable pub sumOk : Score → Bool
-sumOk s = leb (sumOf s) (s .readings * 4503599627370496)
+sumOk s = leb (sumOf s) (s .readings * maxSquare)
 
 -- and the real readings are at most the count
 abbrev pub scoreOk : ℕ → Score → Bool

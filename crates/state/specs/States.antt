@@ -7,7 +7,7 @@ use lib.Dec.{eqb, ltb, leb}
 use lib.IntN.{ℤ, pos}
 use lib.ListN.{getD, length, replicate}
 use Rattle.state.specs.Rejections.{unless, _then_, bad-model, bad-period, bad-parameter, unusual-gains, bad-value, bad-position, bad-score}
-use Rattle.state.specs.Fixed.{inRange, isZero, maxCount}
+use Rattle.state.specs.Fixed.{inRange, isZero, maxCount, wordSize}
 use Rattle.state.specs.Scores.{noScore, scoreOk}
 use Rattle.integers.specs.Below.{allBelow}
 use Rattle.models.specs.Models.{hasTrend, validModel, periodOk, parametersOk, usualGains}
@@ -74,7 +74,7 @@ withModel model s =
 -- what the types of the code's state hold, beside its checks: 48 season cells, and a low word of 64 bits
 pub record Typed (s : State) : Type 0 where
   pub cells : length (s .seasonal) ≡ 48
-  pub low : s .score .low < 18446744073709551616
+  pub low : s .score .low < wordSize
 
 -- no state: what stands in the place of one after a rejection. Its model byte is not valid, so every call rejects it
 unfoldable pub noState : State

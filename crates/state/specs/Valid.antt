@@ -5,7 +5,7 @@ use mathlib.Core.Bool.{true, false}
 use lib.IntN.{pos}
 use lib.ListN.{getD}
 use Rattle.integers.specs.Bounds.{Within}
-use Rattle.state.specs.Fixed.{maxCount}
+use Rattle.state.specs.Fixed.{maxCount, maxValue, maxSquare}
 use Rattle.state.specs.Scores.{sumOf}
 use Rattle.models.specs.Models.{hasTrend, hasSeason}
 use Rattle.state.specs.declared.State.{State}
@@ -16,14 +16,14 @@ pub record Bounded (s : State) : Type 0 where
   pub beta : s .beta ≤ 65536
   pub gamma : s .gamma ≤ 65536
   pub phi : s .phi ≤ 65536
-  pub level : Within 1099511627776 (s .level)
-  pub trend : Within 1099511627776 (s .trend)
-  pub cells : (k : ℕ) → k < 48 → Within 1099511627776 (getD (s .seasonal) k (pos 0))
+  pub level : Within maxValue (s .level)
+  pub trend : Within maxValue (s .trend)
+  pub cells : (k : ℕ) → k < 48 → Within maxValue (getD (s .seasonal) k (pos 0))
   pub period : s .period ≤ 48
   pub index : s .index < 48
   pub count : s .count ≤ maxCount
   pub readings : s .score .readings ≤ s .count
-  pub sum : sumOf (s .score) ≤ s .score .readings * 4503599627370496
+  pub sum : sumOf (s .score) ≤ s .score .readings * maxSquare
 
 -- what a model does not have is 0
 pub record NoTrend (s : State) : Type 0 where

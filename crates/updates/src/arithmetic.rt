@@ -16,7 +16,7 @@ ghost use mathlib.Core.Path.{_≡_};
 ghost use Prim.Native.Nat.{_≤_};
 ghost use Rattle.integers.specs.Bounds.{Within};
 ghost use Rattle.state.specs.Rejections.{unless};
-ghost use Rattle.state.specs.Fixed.{share};
+ghost use Rattle.state.specs.Fixed.{share, maxSquare, maxResidual};
 ghost use Rattle.ets.specs.Steps.{residual, squareOf, scoreAfter};
 ghost use Rattle.ets.specs.Updates.{termsAt, corrections, readingUpdate, advance, missingUpdate};
 ghost use Rattle.ets.specs.Bounds.{NumbersIn, AdvanceIn, TermsIn, ScoreIn};
@@ -47,16 +47,16 @@ fn terms_at(even: bool, n: Numbers) -> Terms
 fn residual(t: Terms, y: i32) -> i64
     requires { ⌜ TermsIn t × Within 1000000 y ⌝ }
     ensures value { λ r. ⌜ r ≡ residual t y ⌝ }
-    ensures bound { λ r. ⌜ Within 3364070883328 r ⌝ }
+    ensures bound { λ r. ⌜ Within maxResidual r ⌝ }
 {
     65536 * (y as i64) - (t.level + t.damped + t.season)
 }
 
 // The square of R(e).
 fn square(even: bool, e: i64) -> u64
-    requires { ⌜ Within 3364070883328 e ⌝ }
+    requires { ⌜ Within maxResidual e ⌝ }
     ensures value { λ r. ⌜ r ≡ squareOf even e ⌝ }
-    ensures bound { λ r. ⌜ r ≤ 4503599627370496 ⌝ }
+    ensures bound { λ r. ⌜ r ≤ maxSquare ⌝ }
 {
     let r = round(even, e);
     (r * r) as u64
@@ -64,7 +64,7 @@ fn square(even: bool, e: i64) -> u64
 
 // A square in the sum, and one reading more: what leaves the low word goes into the high one.
 fn add_square(score: Score, square: u64) -> Score
-    requires { ⌜ ScoreIn score × (square ≤ 4503599627370496) ⌝ }
+    requires { ⌜ ScoreIn score × (square ≤ maxSquare) ⌝ }
     ensures { λ r. ⌜ r ≡ scoreAfter score square ⌝ }
 {
     let room = u64::MAX - square;
@@ -85,14 +85,14 @@ fn add_square(score: Score, square: u64) -> Score
 
 // The score after a reading with residual e.
 pub fn score_after(even: bool, score: Score, e: i64) -> Score
-    requires { ⌜ ScoreIn score × Within 3364070883328 e ⌝ }
+    requires { ⌜ ScoreIn score × Within maxResidual e ⌝ }
     ensures { λ r. ⌜ r ≡ scoreAfter score (squareOf even e) ⌝ }
 {
     add_square(score, square(even, e))
 }
 
 fn corrections(t: Terms, e: i64) -> Update
-    requires { ⌜ TermsIn t × Within 3364070883328 e ⌝ }
+    requires { ⌜ TermsIn t × Within maxResidual e ⌝ }
     ensures { λ r. ⌜ r ≡ corrections t e ⌝ }
 {
     Update {

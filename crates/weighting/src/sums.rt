@@ -9,7 +9,7 @@ ghost use Prim.Native.Nat.{_+_, _*_, _/_, _%_, _≤_};
 ghost use mathlib.Core.Path.{_≡_};
 ghost use mathlib.Core.Bool.{cond};
 ghost use lib.Dec.{eqb, ltb};
-ghost use Rattle.state.specs.Fixed.{shareNat};
+ghost use Rattle.state.specs.Fixed.{shareNat, wordSize};
 ghost use Rattle.state.specs.Valid.{Valid};
 ghost use Rattle.weights.specs.Weights.{coefficient, weightOf};
 ghost use Rattle.weights.specs.Groups.{groupCount};
@@ -108,7 +108,7 @@ pub fn weight_of(s: State, h: u32) -> u64
 
 // A weight times σ² in two words, from two products of 64 bits.
 pub fn product(w: u64, sigma2: u32) -> Variance
-    ensures { λ r. ⌜ r ≡ Variance.Accepted (w * sigma2 / 18446744073709551616) (w * sigma2 % 18446744073709551616) ⌝ }
+    ensures { λ r. ⌜ r ≡ Variance.Accepted (w * sigma2 / wordSize) (w * sigma2 % wordSize) ⌝ }
 {
     let v = sigma2 as u64;
     let low = (w % 0x1_0000_0000) * v;

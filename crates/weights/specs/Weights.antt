@@ -3,7 +3,7 @@ use Prim.Native.Nat.{ℕ, zero, suc, _+_, _-_, _*_, _/_, _%_}
 use mathlib.Core.Path.{_≡_}
 use mathlib.Core.Bool.{Bool, false, cond, _&&_}
 use lib.Dec.{eqb}
-use Rattle.state.specs.Fixed.{shareNat}
+use Rattle.state.specs.Fixed.{shareNat, wordSize}
 use Rattle.state.specs.Rejections.{unless, _then_, accepting, out-of-place, bad-horizon}
 use Rattle.state.specs.States.{check}
 use Rattle.models.specs.Models.{trendOf, hasSeason, tiesToEven, errorsAre}
@@ -49,7 +49,7 @@ weightAnswer n w = accepting n (weight-of.Accepted w) weight-of.Rejected
 
 abbrev pub varianceAnswer : ℕ → ℕ → Variance
 varianceAnswer n v =
-    accepting n (variance-of.Accepted (v / 18446744073709551616) (v % 18446744073709551616)) variance-of.Rejected
+    accepting n (variance-of.Accepted (v / wordSize) (v % wordSize)) variance-of.Rejected
 
 -- and back: the number of each case, and the values of an accepted one
 abbrev pub weightCode : Weight → ℕ
@@ -65,7 +65,7 @@ varianceCode (variance-of.Accepted high low) = 0
 varianceCode (variance-of.Rejected n) = n
 
 abbrev pub varianceValue : Variance → ℕ
-varianceValue (variance-of.Accepted high low) = high * 18446744073709551616 + low
+varianceValue (variance-of.Accepted high low) = high * wordSize + low
 varianceValue (variance-of.Rejected n) = 0
 
 -- each case is told by its number and its values
