@@ -1,4 +1,4 @@
-"""Calls that no stream reaches, for the program `calls`: states handed in directly, batches, all horizons, the bedside
+"""Calls that no stream reaches, for the program `call_vectors`: states handed in directly, batches, all horizons, the bedside
 display's forecasts, weights, also by time of day, variances of relative errors, the calls on a calendar of clock changes, short
 slices, groups read from a slice, states kept and brought back. Nothing here is random.
 

@@ -1,4 +1,4 @@
-"""Random calls on a calendar of clock changes (W-208) for the program `calls`: most with 24 places, lists whose counts are often
+"""Random calls on a calendar of clock changes (W-208) for the program `call_vectors`: most with 24 places, lists whose counts are often
 due, and numbers near the edges of their ranges."""
 
 from dataclasses import replace
