@@ -1,9 +1,10 @@
 // Operands of fixed width at an offset of a byte string, low byte first, signed ones in two's complement: document 01, "Commands".
 // Every offset has an answer: what stands after the end counts as 0.
+use integers::to_i64;
 ghost use mathlib.Core.Path.{_≡_};
 ghost use Prim.Native.Nat.{_+_, _^_, _≤_, _<_};
 ghost use lib.ListN.{length, getD};
-ghost use mir.Syntax.{w32, w64};
+ghost use mir.Syntax.{w32};
 ghost use mir.Val.{toZ};
 ghost use Rattle.layout.specs.Bytes.{unsignedAt, signedAt};
 
@@ -104,16 +105,5 @@ fn to_i32(n: u32) -> i32
         n as i32
     } else {
         -1 - ((u32::MAX - n) as i32)
-    }
-}
-
-// And that 64 bits stand for.
-fn to_i64(n: u64) -> i64
-    ensures { λ r. ⌜ r ≡ toZ w64 n ⌝ }
-{
-    if n < 0x8000_0000_0000_0000 {
-        n as i64
-    } else {
-        -1 - ((u64::MAX - n) as i64)
     }
 }

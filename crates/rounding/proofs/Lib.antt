@@ -1,3 +1,2 @@
-pub mod Signed
 pub mod WrappedLaws
 pub mod Shares

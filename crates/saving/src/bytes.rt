@@ -1,23 +1,11 @@
 // Operands of fixed width, stored low byte first, signed ones in two's complement.
+use integers::of_i64;
 ghost use mathlib.Core.Path.{_≡_};
 ghost use mathlib.Core.List.{[], _∷_};
 ghost use Prim.Native.Nat.{_+_, _≤_, _<_};
 ghost use lib.ListN.{length};
 ghost use lib.Seq.{sets};
-ghost use mir.Syntax.{w64};
-ghost use mir.Val.{ofZ};
 ghost use Rattle.saving.specs.Encoding.{toBytes, signedBytes};
-
-// The bits of a number in two's complement.
-fn of_i64(z: i64) -> u64
-    ensures { λ r. ⌜ r ≡ ofZ w64 z ⌝ }
-{
-    if z < 0 {
-        u64::MAX - ((-1 - z) as u64)
-    } else {
-        z as u64
-    }
-}
 
 pub fn write_byte(d: &mut [u8], at: usize, b: u8)
     requires { ⌜ at < length (now d) ⌝ }

@@ -1,11 +1,11 @@
--- `rounding::to_i64` meets its contract, by the laws of `Signed` at 64 bits.
+-- `integers::to_i64` meets its contract, by the laws of `Signed` at 64 bits.
 use mathlib.Core.Path.{_∙_}
 use borrow.Author.Needs.{needs}
 use mir.Syntax.{w64}
 use mir.ValLaws.{toZ-ofZ}
-use Rattle.rounding.proofs.Signed.{down, down-fits}
-use Rattle.rounding.proofs.to_i64.Statement.{statement}
-use Rattle.rounding.proofs.to_i64.Tie as tie
+use Rattle.integers.proofs.Signed.{down, down-fits}
+use Rattle.integers.proofs.to_i64.Statement.{statement}
+use Rattle.integers.proofs.to_i64.Tie as tie
 
 sub-result-2 : tie.Need-sub-result-2
 sub-result-2 c = down-fits w64 (c .before .args .n) (c .if1 .left) (c .before .fits .n)

@@ -1,8 +1,8 @@
--- `rounding::of_i64` meets its contract, by the laws of `Signed` at 64 bits.
+-- `integers::of_i64` meets its contract, by the laws of `Signed` at 64 bits.
 use mir.Syntax.{w64}
-use Rattle.rounding.proofs.Signed.{kept-cast, kept-bits, up-fits, up-cast, up-le, up-bits}
-use Rattle.rounding.proofs.of_i64.Statement.{statement}
-use Rattle.rounding.proofs.of_i64.Tie as tie
+use Rattle.integers.proofs.Signed.{kept-cast, kept-bits, up-fits, up-cast, up-le, up-bits}
+use Rattle.integers.proofs.of_i64.Statement.{statement}
+use Rattle.integers.proofs.of_i64.Tie as tie
 
 sub-result : tie.Need-sub-result
 sub-result c = up-fits w64 (c .before .args .z) (c .before .fits .z) (c .if1 .taken)
