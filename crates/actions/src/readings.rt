@@ -7,8 +7,8 @@ use replies::Reply;
 use state::Answer;
 use state::Outcome;
 use state::State;
-use steps::missing;
-use steps::step;
+use updates::steps::missing;
+use updates::steps::step;
 ghost use mathlib.Core.Path.{_≡_};
 ghost use Rattle.actions.specs.Actions.{accepted, rejected, takeReading, takeMissing, switchState};
 

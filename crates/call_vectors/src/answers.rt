@@ -85,14 +85,14 @@ fn print_length(length: Length) {
 }
 
 fn play_step(s: State) {
-    let r = steps::step(s, next_i32());
+    let r = updates::steps::step(s, next_i32());
     let residual = r.residual;
     print_answer(residual);
     print_state(r.state);
 }
 
 fn play_missing(s: State) {
-    let r = steps::missing(s);
+    let r = updates::steps::missing(s);
     let outcome = r.outcome;
     print_outcome(outcome);
     print_state(r.state);

@@ -4,7 +4,7 @@ use c_api::forecaster_step;
 use forecasting::forecast;
 use state::Answer;
 use state::State;
-use steps::step;
+use updates::steps::step;
 ghost use mathlib.Core.Path.{_≡_};
 ghost use mathlib.Core.List.{[]};
 ghost use Rattle.state.specs.Rejections.{answerCode, answerValue};

@@ -1,6 +1,7 @@
-// The step on numbers: no state is copied, and no other season value is looked at. The batch, whose loop is over numbers, stands with it.
+// The step on numbers: no state is copied, and no other season value is looked at. The step on a state and the batch, whose loop is over numbers, stand with it: they check a state once.
 mod arithmetic;
 pub mod batches;
+pub mod steps;
 
 use arithmetic::missing_update;
 use arithmetic::reading_update;

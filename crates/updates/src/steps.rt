@@ -1,4 +1,7 @@
 // A reading and a missing reading on a state by value.
+use super::arithmetic::missing_update;
+use super::arithmetic::reading_update;
+use super::arithmetic::score_after;
 use checks::check;
 use ets::Missed;
 use ets::Stepped;
@@ -10,9 +13,6 @@ use state::Outcome;
 use state::Score;
 use state::State;
 use turns::next_index;
-use updates::update;
-use updates::update_missing;
-use updates::update_score;
 ghost use mathlib.Core.Path.{_≡_};
 ghost use Prim.Native.Nat.{_<_};
 ghost use Rattle.state.specs.Fixed.{maxCount};
@@ -82,13 +82,13 @@ pub fn step(s: State, y: i32) -> Stepped
         return rejected_step(s, n);
     }
     let even = ties_to_even(s.model);
-    let u = update(even, numbers_of(s), y);
+    let u = reading_update(even, numbers_of(s), y);
     let k = u.code;
     if k != 0 {
         return rejected_step(s, k);
     }
     let e = u.residual;
-    let score = update_score(even, s.count, s.score, e);
+    let score = score_after(even, s.score, e);
     Stepped {
         state: store(s, u, score),
         residual: Answer::Accepted(e),
@@ -102,7 +102,7 @@ pub fn missing(s: State) -> Missed
     if n != 0 {
         return rejected_missing(s, n);
     }
-    let u = update_missing(ties_to_even(s.model), numbers_of(s));
+    let u = missing_update(ties_to_even(s.model), numbers_of(s));
     let k = u.code;
     if k != 0 {
         return rejected_missing(s, k);

@@ -1,8 +1,8 @@
 use mir.Syntax.{w64}
 use Rattle.integers.proofs.Difference.{back}
 use borrow.Author.Needs.{needs}
-use Rattle.steps.proofs.store.Statement.{statement}
-use Rattle.steps.proofs.store.Tie as tie
+use Rattle.updates.proofs.steps.store.Statement.{statement}
+use Rattle.updates.proofs.steps.store.Tie as tie
 
 returns : tie.Need-returns
 returns c =
