@@ -10,7 +10,7 @@ use replies::Reply;
 use state::{Outcome, State};
 
 // Whether a command is accepted, its answer where it is, and the state that stands after it.
-#[derive(Drop)]
+#[derive(Clone, Copy)]
 pub struct Action {
     pub outcome: Outcome,
     pub reply: Reply,
@@ -18,7 +18,7 @@ pub struct Action {
 }
 
 // What 10 or 18 does, and the bytes of its group, or of a rejected one those before the rejected command.
-#[derive(Drop)]
+#[derive(Clone, Copy)]
 pub struct Opening {
     pub action: Action,
     pub size: usize,

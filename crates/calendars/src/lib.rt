@@ -4,14 +4,14 @@ ghost use Rattle.calendars.specs.Calendars.{below_first, rising, lists_ok};
 ghost use Rattle.calendars.specs.Cursors.{seek, stands_at, merged};
 
 // How many counts of each list of clock changes are behind.
-#[derive(Drop)]
+#[derive(Clone, Copy)]
 pub struct Cursors {
     pub skipped: usize,
     pub repeated: usize,
 }
 
 // The turn of a step by the lists, and the cursors for the next one.
-#[derive(Drop)]
+#[derive(Clone, Copy)]
 pub struct Walked {
     pub used: u8,
     pub next: u8,
@@ -19,7 +19,7 @@ pub struct Walked {
 }
 
 // The cursors of two lists after one count is passed, and whether it is below the one after it.
-#[derive(Drop)]
+#[derive(Clone, Copy)]
 struct Merged {
     rises: bool,
     first: usize,

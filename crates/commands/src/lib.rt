@@ -16,7 +16,7 @@ use state::{State, no_state};
 // What stands between two commands of a stream: the offset of the next one, and the state, where one is open. The states kept (document 02, W-209) stand beside it, in a
 // lent buffer (`checkpoints`), so that a command which keeps or brings back none copies none.
 // The fields are private: only `start` and `perform` make a session, so that the state of every session passes its checks.
-#[derive(Drop)]
+#[derive(Clone, Copy)]
 pub struct Session {
     at: usize,
     // Whether a state is open.
@@ -25,7 +25,7 @@ pub struct Session {
 }
 
 // The answer to a command, and what stands after it.
-#[derive(Drop)]
+#[derive(Clone, Copy)]
 pub struct Performed {
     pub reply: Reply,
     pub session: Session,

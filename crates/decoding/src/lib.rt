@@ -9,7 +9,7 @@ use models::errors_are;
 use reading::command_at;
 use state::{OUT_OF_PLACE, TRUNCATED};
 
-#[derive(Drop)]
+#[derive(Clone, Copy)]
 pub enum Command {
     // No command: the stream ends.
     End,
@@ -30,7 +30,7 @@ pub enum Command {
 }
 
 // A command, and the offset after it.
-#[derive(Drop)]
+#[derive(Clone, Copy)]
 pub struct Decoded {
     pub command: Command,
     pub next: usize,

@@ -4,7 +4,7 @@ pub mod promises;
 use state::{Answer, Outcome, State};
 
 // What a step is made of: the rounding rule (whether ties go to the even number), the gains, the level, the damped trend (document 01's d) and the season value that is due.
-#[derive(Drop)]
+#[derive(Clone, Copy)]
 pub struct Terms {
     pub even: bool,
     pub alpha: u32,
@@ -16,7 +16,7 @@ pub struct Terms {
 }
 
 // What a reading makes of them. code is the rejection or 0.
-#[derive(Drop)]
+#[derive(Clone, Copy)]
 pub struct Update {
     pub code: u8,
     pub level: i64,
@@ -26,21 +26,21 @@ pub struct Update {
 }
 
 // The state that stands after a reading, and the residual (document 01's e) or the rejection.
-#[derive(Drop)]
+#[derive(Clone, Copy)]
 pub struct Stepped {
     pub state: State,
     pub residual: Answer,
 }
 
 // The state that stands after a missing reading.
-#[derive(Drop)]
+#[derive(Clone, Copy)]
 pub struct Missed {
     pub state: State,
     pub outcome: Outcome,
 }
 
 // The state that stands after a batch, and how many readings it took.
-#[derive(Drop)]
+#[derive(Clone, Copy)]
 pub struct Batched {
     pub state: State,
     pub taken: usize,

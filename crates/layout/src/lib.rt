@@ -13,7 +13,7 @@ pub use table::{
 use table::{LEVEL_LENGTH, MODEL_LENGTH};
 
 // The bytes that a state's snapshot needs, or those of a command.
-#[derive(Drop)]
+#[derive(Clone, Copy)]
 pub enum Length {
     Bytes(usize),
     Rejected(u8),

@@ -16,7 +16,7 @@ pub const SEASON_LENGTH: usize = 10;
 pub const POSITION_LENGTH: usize = 10;
 
 // The length, and whether only a snapshot holds it.
-#[derive(Drop)]
+#[derive(Clone, Copy)]
 pub struct Entry(pub usize, pub bool);
 
 // The table's row of a byte; a length of 0 where it begins no command.

@@ -12,7 +12,7 @@ use replies::{Reply, fields_of};
 use state::SHORT_BUFFER;
 
 // The bytes of a line.
-#[derive(Drop)]
+#[derive(Clone, Copy)]
 pub enum Line {
     Bytes(usize),
     Rejected(u8),

@@ -2,7 +2,7 @@
 // `relative_variance`.
 pub mod promises;
 
-#[derive(Drop)]
+#[derive(Clone, Copy)]
 pub enum RelativeVariance {
     Accepted(f64),
     Rejected(u8),

@@ -3,7 +3,7 @@ ghost use Rattle.std.specs.Prelude.{◌≡◌};
 ghost use Rattle.replies.specs.Replies.{fields_of, is_last};
 
 // The answer to a command, by the letter of its line.
-#[derive(Drop)]
+#[derive(Clone, Copy)]
 pub enum Reply {
     // O
     Opened { model: u8, period: u8 },
@@ -31,7 +31,7 @@ pub enum Reply {
 pub const NO_LETTER: u8 = 0;
 
 // A number of a line, with the blank before it.
-#[derive(Drop)]
+#[derive(Clone, Copy)]
 pub enum Number {
     Nothing,
     Unsigned(u64),
@@ -40,7 +40,7 @@ pub enum Number {
     Hexadecimal(u32),
 }
 
-#[derive(Drop)]
+#[derive(Clone, Copy)]
 pub struct Fields {
     pub letter: u8,
     pub first: Number,

@@ -18,7 +18,7 @@ use state::{
 };
 
 // What a call on a lent slice goes by: the slice's rejection or 0, and then the numbers of its snapshot, the season value being the one due.
-#[derive(Drop)]
+#[derive(Clone, Copy)]
 pub struct Checked {
     pub code: u8,
     // Whether the snapshot has command 15.

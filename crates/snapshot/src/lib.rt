@@ -10,7 +10,7 @@ pub use reading::{Scanned, scan};
 use state::{Outcome, State, no_state};
 
 // What reading a snapshot gives: the state, or the rejection and a state that every check refuses.
-#[derive(Drop)]
+#[derive(Clone, Copy)]
 pub struct Opened {
     pub outcome: Outcome,
     pub state: State,

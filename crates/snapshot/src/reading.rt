@@ -23,7 +23,7 @@ use state::{
 };
 
 // What the checks of a stream found: the rejection and the offset of its command, or 0 and the offset of what follows.
-#[derive(Drop)]
+#[derive(Clone, Copy)]
 pub struct Scanned {
     pub code: u8,
     pub offset: usize,

@@ -58,7 +58,7 @@ pub const MAX_VALUE: i64 = 0x100_0000_0000;
 pub const MAX_COUNT: u64 = 0x1_0000_0000_0000;
 
 // The score of a state: its real readings, and the sum of the squares of R(e) over them as a high and a low word.
-#[derive(Drop)]
+#[derive(Clone, Copy)]
 pub struct Score {
     pub readings: u64,
     pub high: u64,
@@ -66,7 +66,7 @@ pub struct Score {
 }
 
 // Level, trend and season values are fixed-point numbers with 16 fraction bits (document 01's grains).
-#[derive(Drop)]
+#[derive(Clone, Copy)]
 pub struct State {
     // Whether command 18 opened it, for gains outside the usual region; else 10 did.
     pub outside: bool,
@@ -88,7 +88,7 @@ pub struct State {
 }
 
 // The numbers of a state that a reading moves and is moved by; the season value is the one at the seasonal index.
-#[derive(Drop)]
+#[derive(Clone, Copy)]
 pub struct Numbers {
     pub alpha: u32,
     pub beta: u32,
@@ -133,21 +133,21 @@ pub fn no_state() -> State
 }
 
 // The answer of a call that gives no number.
-#[derive(Drop)]
+#[derive(Clone, Copy)]
 pub enum Outcome {
     Accepted,
     Rejected(u8),
 }
 
 // The answer of a call that gives a number.
-#[derive(Drop)]
+#[derive(Clone, Copy)]
 pub enum Answer {
     Accepted(i64),
     Rejected(u8),
 }
 
 // The state that stands after a switch of its rounding rule.
-#[derive(Drop)]
+#[derive(Clone, Copy)]
 pub struct Switched {
     pub state: State,
     pub outcome: Outcome,

@@ -17,7 +17,7 @@ pub const INPUT_LIMIT: usize = 65536;
 pub const MAX_LINE: usize = 3 + 2 * MAX_SIZE;
 
 // The answer to a command, and its line.
-#[derive(Drop)]
+#[derive(Clone, Copy)]
 pub struct Written {
     pub performed: Performed,
     pub line: Line,

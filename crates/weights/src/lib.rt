@@ -2,14 +2,14 @@
 // document 02, W-210. The code is in `weighting`.
 pub mod promises;
 
-#[derive(Drop)]
+#[derive(Clone, Copy)]
 pub enum Weight {
     Accepted(u64),
     Rejected(u8),
 }
 
 // In 2^32ths of a square reading unit.
-#[derive(Drop)]
+#[derive(Clone, Copy)]
 pub enum Variance {
     Accepted { high: u64, low: u64 },
     Rejected(u8),
