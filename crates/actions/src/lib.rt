@@ -1,4 +1,6 @@
 // What each command makes of a state: document 01, "Commands". A rejected one leaves it as it was.
+#![tactic(auto)]
+
 pub mod copies;
 pub mod looks;
 pub mod readings;

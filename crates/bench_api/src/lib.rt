@@ -1,5 +1,7 @@
 // Entry points of the benchmark: calls that the station's C interface does not have, on a lent slice that holds one snapshot.
 // Each returns the rejection's number or 0, as the station's calls do; a rejected call leaves the cells and the lent weight as found.
+#![tactic(auto)]
+
 ghost use Rattle.std.specs.Prelude.{◌≡◌, length};
 ghost use Rattle.calendars.specs.Calendars.{calendar_of};
 ghost use Rattle.bench_api.specs.Snapshots.{batch_code, batch_taken, batch_cells, batch_on_code, batch_on_taken, batch_on_cells, all_code, all_cells, all_on_code, all_on_cells, in_place_weight_code, in_place_weight, in_place_groups_code, in_place_group_cells, in_place_relative_code, in_place_relative_value, in_place_relative_cells};

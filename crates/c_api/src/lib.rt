@@ -1,4 +1,6 @@
 // The station's C calls on a lent slice that holds one snapshot: document 01, "Commands", and document 02, W-211.
+#![tactic(auto)]
+
 ghost use Rattle.std.specs.Prelude.{◌≡◌};
 ghost use Rattle.in_place.specs.InPlace.{in_place_step_code, in_place_step_bytes, in_place_residual, in_place_missing_code, in_place_missing_bytes, in_place_switch_code, in_place_switch_bytes, in_place_forecast_code, in_place_forecast};
 

@@ -1,4 +1,6 @@
 // A calendar of clock changes (document 02, W-208): two lists of step counts, tested in one pass and walked by cursors.
+#![tactic(auto)]
+
 ghost use Rattle.std.specs.Prelude.{◌≡◌, suc, ◌<◌, length, drop, get_or};
 ghost use Rattle.calendars.specs.Calendars.{below_first, rising, lists_ok};
 ghost use Rattle.calendars.specs.Cursors.{seek, stands_at, merged};

@@ -1,4 +1,6 @@
 // Plays calls that no stream reaches: the records on standard input, as tests/second/calls.py writes them.
+#![tactic(auto)]
+
 mod answers;
 mod changes;
 mod input;

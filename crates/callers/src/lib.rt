@@ -1,4 +1,6 @@
 // Callers that chain real calls, directly and in place: what they are answered is within demand 3's limits by their contracts.
+#![tactic(auto)]
+
 ghost use Rattle.std.specs.Prelude.{◌≡◌, []};
 ghost use Rattle.state.specs.Rejections.{answer_code, answer_value};
 ghost use Rattle.forecasts.specs.Forecasts.{forecast};

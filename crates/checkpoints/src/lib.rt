@@ -1,4 +1,6 @@
 // States kept to go back to: document 02, W-209. A checkpoint is a state that one of the paper's four names holds, a slot the part of a lent buffer that is its.
+#![tactic(auto)]
+
 pub mod promises;
 
 ghost use Rattle.std.specs.Prelude.{◌≡◌, length};

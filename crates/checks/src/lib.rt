@@ -1,4 +1,6 @@
 // The checks 5, 6, 7, 16, 9, 10 and 17 of a state handed in directly, and the switch of its rounding rule.
+#![tactic(auto)]
+
 pub mod switching;
 
 ghost use Rattle.std.specs.Prelude.{◌≡◌};

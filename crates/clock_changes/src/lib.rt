@@ -1,5 +1,7 @@
 // The calls by two lent lists of clock changes: document 02, W-208. A reading and a missing reading are here; the batch stands with the loop of every batch, the forecasts
 // with theirs, the window's call in a crate of its own.
+#![tactic(auto)]
+
 ghost use Rattle.std.specs.Prelude.{◌≡◌};
 ghost use Rattle.calendars.specs.Calendars.{calendar_of};
 ghost use Rattle.ets.specs.Calendars.{step_on, missing_on};

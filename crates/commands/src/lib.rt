@@ -1,4 +1,6 @@
 // A stream of commands, one at a time: document 01, "Commands" and "The program's lines".
+#![tactic(auto)]
+
 mod performing;
 
 ghost use Rattle.std.specs.Prelude.{◌≡◌, length};

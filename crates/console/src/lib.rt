@@ -1,4 +1,6 @@
 // A stream of commands played to standard output, one write for each line.
+#![tactic(auto)]
+
 ghost use Rattle.std.specs.Prelude.{◌≡◌};
 ghost use Rattle.checkpoints.specs.Checkpoints.{no_checkpoints};
 ghost use Rattle.commands.specs.Commands.{start};

@@ -1,4 +1,6 @@
 // Document 02, W-207: a damped model without season does not wander either. Each function is a promise: it does nothing, and its contract is a theorem.
+#![tactic(auto)]
+
 ghost use Rattle.damped.specs.Limits.{OneStepForecasts};
 ghost use Rattle.damped.specs.Pins.{Pins};
 

@@ -1,4 +1,6 @@
 // The command at an offset of a stream: document 01, "Commands" and "Refusals, in checking order".
+#![tactic(auto)]
+
 mod reading;
 
 ghost use Rattle.std.specs.Prelude.{◌≡◌};

@@ -1,4 +1,6 @@
 // Demand 3 of document 01: rounding does not make a state wander. Each function is a promise: it does nothing, and its contract is a theorem.
+#![tactic(auto)]
+
 ghost use Rattle.drift.specs.Components.{ComponentForms, StepErrors, MissingErrors};
 ghost use Rattle.drift.specs.ForecastErrors.{ForecastErrors};
 ghost use Rattle.drift.specs.Limits.{Demand3};

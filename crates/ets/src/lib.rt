@@ -1,4 +1,6 @@
 // The recursion of Hyndman's ETS models on a state by value: document 01, "One step" and "Forecast and variance".
+#![tactic(auto)]
+
 pub mod promises;
 
 use state::{Answer, Outcome, State};

@@ -1,4 +1,6 @@
 // The numbers of a snapshot, each read where it stands, in bytes of any length: document 01, "Commands". What stands after the end counts as 0.
+#![tactic(auto)]
+
 ghost use Rattle.std.specs.Prelude.{◌≡◌, List, ℕ, ◌+◌, ◌≤◌, pos, length, replicate};
 ghost use Rattle.layout.specs.Bytes.{signed_at};
 ghost use Rattle.layout.specs.CommandTable.{season_length};

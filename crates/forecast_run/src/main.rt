@@ -1,4 +1,6 @@
 // forecast-run: reads a stream of commands from standard input and prints the line of each.
+#![tactic(auto)]
+
 use libc::STDIN_FILENO;
 use streams::INPUT_LIMIT;
 

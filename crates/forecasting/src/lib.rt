@@ -1,4 +1,6 @@
 // Forecasts from a state by value: for one horizon, and for all of them into a lent buffer. Document 01, "Forecast and variance".
+#![tactic(auto)]
+
 pub mod changes;
 mod sums;
 

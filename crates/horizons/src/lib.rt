@@ -1,4 +1,6 @@
 // What rejects a forecast: the state's checks, then the horizon.
+#![tactic(auto)]
+
 ghost use Rattle.std.specs.Prelude.{◌≡◌};
 ghost use Rattle.forecasts.specs.Forecasts.{horizon_ok, forecast_code_to, forecast_code};
 

@@ -2,6 +2,8 @@
 // Each returns the rejection's number or 0; a rejected call leaves the slice and the lent number as found.
 // The snapshot is checked once. A step reads the numbers that it needs and writes those that it moves: no state is copied.
 // An old snapshot, without command 15, is first written as a new one, once.
+#![tactic(auto)]
+
 pub mod promises;
 
 ghost use Rattle.std.specs.Prelude.{◌≡◌, true, leb, ◌+◌, ◌<◌};

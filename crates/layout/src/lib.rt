@@ -1,4 +1,6 @@
 // The commands of a stream, where each of a snapshot stands, and how long a snapshot is: document 01, "Commands". These numbers stand nowhere else.
+#![tactic(auto)]
+
 pub mod promises;
 mod table;
 

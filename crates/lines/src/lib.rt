@@ -1,4 +1,6 @@
 // The program's lines, each in a lent buffer: document 01, "The program's lines".
+#![tactic(auto)]
+
 mod digits;
 mod fields;
 pub mod promises;

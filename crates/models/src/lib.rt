@@ -1,5 +1,7 @@
 // The model byte, taken apart by masks and shifts and put together again, and the season lengths and parameters that a model allows:
 // document 01, "Grains and states".
+#![tactic(auto)]
+
 ghost use Rattle.std.specs.Prelude.{◌≡◌, cond};
 ghost use Rattle.models.specs.Models.{trend_of, season_of, has_trend, has_season, rounding_of, ties_to_even, to_even, errors_of, has_relative_errors, errors_are, model_byte, valid_model, period_ok, gain_ok, damping_ok, parameters_ok, usual_gains};
 

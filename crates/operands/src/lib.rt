@@ -1,5 +1,7 @@
 // Operands of fixed width at an offset of a byte string, low byte first, signed ones in two's complement: document 01, "Commands".
 // Every offset has an answer: what stands after the end counts as 0.
+#![tactic(auto)]
+
 ghost use Rattle.std.specs.Prelude.{◌≡◌, ◌+◌, ◌^◌, ◌≤◌, ◌<◌, length, get_or};
 ghost use Rattle.std.specs.Int.{w32};
 ghost use Rattle.std.proofs.Common.{to_z};

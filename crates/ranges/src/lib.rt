@@ -1,4 +1,6 @@
 // The tests that the checks of a state are made of, each of a number, a parameter or a position.
+#![tactic(auto)]
+
 ghost use Rattle.std.specs.Prelude.{◌≡◌};
 ghost use Rattle.state.specs.Fixed.{is_reading, is_residual, is_sentinel, in_range, is_zero};
 ghost use Rattle.state.specs.Scores.{score_of, sum_ok, score_ok};

@@ -1,4 +1,6 @@
 // The variance of a forecast whose errors are multiplicative (document 000, Class 2), in doubles: document 02, W-205.
+#![tactic(auto)]
+
 mod doubles;
 
 ghost use Rattle.std.specs.Prelude.{◌≤◌, ◌≡◌, length};

@@ -1,4 +1,6 @@
 // The answers to a stream's commands, each as a letter and up to three numbers or without a line: document 01, "The program's lines".
+#![tactic(auto)]
+
 ghost use Rattle.std.specs.Prelude.{◌≡◌};
 ghost use Rattle.replies.specs.Replies.{fields_of, is_last};
 

@@ -1,4 +1,6 @@
 // Document 02, W-209: what follows 51 is answered as if all since 50 had never come. Each function is a promise: it does nothing, and its contract is a theorem.
+#![tactic(auto)]
+
 ghost use Rattle.rollbacks.specs.Rollbacks.{Rollbacks};
 ghost use Rattle.rollbacks.specs.Pins.{Pins};
 

@@ -1,4 +1,6 @@
 // Saving and reading together: each function is a promise. It does nothing, and its contract is a theorem.
+#![tactic(auto)]
+
 ghost use Rattle.round_trips.specs.Promises.{ReadsSaved, SavesRead, Reopens};
 
 // Reading what was saved gives the state, for every state that passes and every buffer with room.

@@ -1,4 +1,6 @@
 // R of document 01, "One step", for every number of 64 bits.
+#![tactic(auto)]
+
 ghost use Rattle.std.specs.Prelude.{◌≡◌};
 ghost use Rattle.rounding.specs.Wrapped.{wrapped};
 

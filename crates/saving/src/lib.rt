@@ -1,4 +1,6 @@
 // Writing the snapshot of a state, whole or one command of it: document 01, "Commands". A snapshot is the paper's group.
+#![tactic(auto)]
+
 mod bytes;
 pub mod rewriting;
 mod writing;

@@ -1,4 +1,6 @@
 // A lent slice that holds one snapshot and nothing after it, but for the room that an old one leaves: document 01, "Commands", and document 02, W-204.
+#![tactic(auto)]
+
 ghost use Rattle.std.specs.Prelude.{◌≡◌, cond, eqb, pos};
 ghost use Rattle.layout.specs.Layout.{scored_in, period_in, season_in, index_in};
 ghost use Rattle.snapshot.specs.Facts.{Room};

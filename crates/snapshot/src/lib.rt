@@ -1,4 +1,6 @@
 // Reading a snapshot: document 01, "Commands". A snapshot is the paper's group.
+#![tactic(auto)]
+
 pub mod promises;
 mod reading;
 

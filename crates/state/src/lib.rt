@@ -1,4 +1,6 @@
 // The forecaster's state by value and the checks of a state handed in: document 01, "Grains and states".
+#![tactic(auto)]
+
 ghost use Rattle.std.specs.Prelude.{◌≡◌};
 ghost use Rattle.state.specs.Rejections.{unless, ◌then◌, outcome_code};
 ghost use Rattle.state.specs.Pins.{Pins};

@@ -1,4 +1,6 @@
 // A whole stream of commands and its text: document 01, "The program's lines".
+#![tactic(auto)]
+
 pub mod promises;
 
 ghost use Rattle.std.specs.Prelude.{◌≡◌, length};

@@ -1,4 +1,6 @@
 // Lists of calls: document 01, "One step"; and of operations, which keep states too: document 02, W-209. The vocabulary is in specs/. Each function is a promise: it does nothing, and its contract is a theorem.
+#![tactic(auto)]
+
 ghost use Rattle.traces.specs.Laws.{CallLaws, InPlaceLaws, SliceLaws};
 ghost use Rattle.traces.specs.Scores.{ScoreLaws};
 ghost use Rattle.traces.specs.Operations.{OperationLaws};

@@ -1,4 +1,6 @@
 // Clock changes (document 02, W-208): two lent lists of step counts, the first of steps at which place 2 is due and is skipped, the second of those at which it is used again.
+#![tactic(auto)]
+
 ghost use Rattle.std.specs.Prelude.{◌≡◌};
 ghost use Rattle.calendars.specs.Calendars.{calendar_of, calendar_ok};
 ghost use Rattle.calendars.specs.Turns.{next_index};

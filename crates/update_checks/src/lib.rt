@@ -1,4 +1,6 @@
 // What rejects a step on numbers, and the update that a rejection gives.
+#![tactic(auto)]
+
 ghost use Rattle.std.specs.Prelude.{◌≡◌, ◌&&◌};
 ghost use Rattle.state.specs.Rejections.{unless, ◌then◌, bad_reading};
 ghost use Rattle.state.specs.Fixed.{in_range, is_reading};

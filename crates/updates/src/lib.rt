@@ -1,4 +1,6 @@
 // The step on numbers: no state is copied, and no other season value is looked at. The step on a state and the batch, whose loop is over numbers, stand with it: they check a state once.
+#![tactic(auto)]
+
 mod arithmetic;
 pub mod batches;
 pub mod steps;

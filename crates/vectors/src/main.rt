@@ -1,5 +1,6 @@
 // Plays many stored streams: the records of the file that the argument names, as tests/second/streams.py writes them.
 // A record is a kind, a length of 32 bits with the low byte first, and a stream; kind 1 is played cut after each byte.
+#![tactic(auto)]
 
 ghost use Rattle.std.specs.Prelude.{◌<◌};
 

@@ -1,4 +1,6 @@
 // The weights and the variance of a forecast: document 01, "Forecast and variance"; the weights by j modulo m: document 02, W-210.
+#![tactic(auto)]
+
 pub mod coefficients;
 pub mod groups;
 mod sums;

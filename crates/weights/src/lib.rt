@@ -1,5 +1,7 @@
 // The definitions of the weights and the variance of a forecast, and what is promised of them: document 01, "Forecast and variance"; the weights by j modulo m:
 // document 02, W-210. The code is in `weighting`.
+#![tactic(auto)]
+
 pub mod promises;
 
 #[derive(Clone, Copy)]

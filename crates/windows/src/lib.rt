@@ -1,4 +1,6 @@
 // A quiet window: a half-open span of the places of a day, running on from 23 to 0 where its end is the smaller.
+#![tactic(auto)]
+
 ghost use Rattle.std.specs.Prelude.{◌≡◌};
 ghost use Rattle.calendars.specs.Calendars.{calendar_of};
 ghost use Rattle.state.specs.Rejections.{answer, unless, bad_calendar};

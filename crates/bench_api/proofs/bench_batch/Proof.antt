@@ -12,33 +12,33 @@ use borrow.Author.Rules.{rules}
 use Rattle.bench_api.proofs.bench_batch.Statement.{statement}
 use Rattle.bench_api.proofs.bench_batch.Tie as tie
 
-code : (c : tie.After-code-of) → c.code_of.result ≡ in_place_code c.before.before.before.args.snapshot.now
-code c = c.code_of.ensures ∙ code_is _ _ c.before.read.ensures
+code : (c : tie.After-code_of-code) → c.code_of-code.result ≡ in_place_code c.before.before.before.args.snapshot.now
+code c = c.code_of-code.ensures ∙ code_is _ _ c.before.read-opened.ensures
 
 -- where it is 0, the state is the one that the slice holds
-opens : (c : tie.Else1) → in_place_code c.before.before.before.before.args.snapshot.now ≡ 0
-opens c = sym (code c.before) ∙ c.if1.false
+opens : (c : tie.Else-code-ne0) → in_place_code c.before.before.before.before.args.snapshot.now ≡ 0
+opens c = sym (code c.before) ∙ c.if-code-ne0.false
 
-done : (c : tie.After-batch) → let s = c.before.before.before.before.before.before.before.args in c.batch.result ≡ batch (decoded s.snapshot.now) s.readings.now (length s.levels.now)
+done : (c : tie.After-batch-done) → let s = c.before.before.before.before.before.before.before.args in c.batch-done.result ≡ batch (decoded s.snapshot.now) s.readings.now (length s.levels.now)
 done c =
     let i = c.before.before.before in
-    rw (state-is _ _ i.before.before.read.ensures (opens i)) at c.batch.ensures.0
+    rw (state-is _ _ i.before.before.read-opened.ensures (opens i)) at c.batch-done.ensures.answer
 
-returns : tie.Need-returns
+returns : tie.Need-returns-then-code-ne0
 unfolding batch_code batch_taken batch_cells
-returns c = rw (← (code c.before), ne_eqb _ _ c.if1.true) (refl, (refl, refl))
+returns c = rw (← (code c.before), ne_eqb _ _ c.if-code-ne0.true) (refl, (refl, refl))
 
-returns-2 : tie.Need-returns-2
+returns-2 : tie.Need-returns
 unfolding batch_code batch_taken batch_cells
 returns-2 c =
     let b = c.before.before in
     let i = b.before.before.before in
     let e = done b in
     rw (opens i)
-    (c.code-of2.ensures ∙ ap (λ (r : Batched). outcome_code r.outcome) e, (ap (λ (r : Batched). r.taken) e, b.batch.ensures.1 ∙ rw (state-is _ _ i.before.before.read.ensures (opens i))))
+    (c.code_of.ensures ∙ ap (λ (r : Batched). outcome_code r.outcome) e, (ap (λ (r : Batched). r.taken) e, b.batch-done.ensures.buffer ∙ rw (state-is _ _ i.before.before.read-opened.ensures (opens i))))
 
-pub bench-batch-spec : {M : Type 1} → statement M
-bench-batch-spec =
+pub bench_batch_spec : {M : Type 1} → statement M
+bench_batch_spec =
     tie.close
     (tie.spec
     (λ c κs. search rules)

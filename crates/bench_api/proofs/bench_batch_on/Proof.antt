@@ -13,33 +13,33 @@ use borrow.Author.Rules.{rules}
 use Rattle.bench_api.proofs.bench_batch_on.Statement.{statement}
 use Rattle.bench_api.proofs.bench_batch_on.Tie as tie
 
-code : (c : tie.After-code-of) → c.code_of.result ≡ in_place_code c.before.before.before.before.before.args.snapshot.now
-code c = c.code_of.ensures ∙ code_is _ _ c.before.read.ensures
+code : (c : tie.After-code_of-code) → c.code_of-code.result ≡ in_place_code c.before.before.before.before.before.args.snapshot.now
+code c = c.code_of-code.ensures ∙ code_is _ _ c.before.read-opened.ensures
 
 -- where it is 0, the state is the one that the slice holds
-opens : (c : tie.Else1) → in_place_code c.before.before.before.before.before.before.args.snapshot.now ≡ 0
-opens c = sym (code c.before) ∙ c.if1.false
+opens : (c : tie.Else-code-ne0) → in_place_code c.before.before.before.before.before.before.args.snapshot.now ≡ 0
+opens c = sym (code c.before) ∙ c.if-code-ne0.false
 
-done : (c : tie.After-batch-on) → let s = c.before.before.before.before.before.before.before.before.before.args in c.batch-on.result ≡ batch_on (calendar_of s.skipped.now s.repeated.now) (decoded s.snapshot.now) s.readings.now (length s.levels.now)
+done : (c : tie.After-batch_on-done) → let s = c.before.before.before.before.before.before.before.before.before.args in c.batch_on-done.result ≡ batch_on (calendar_of s.skipped.now s.repeated.now) (decoded s.snapshot.now) s.readings.now (length s.levels.now)
 done c =
     let i = c.before.before.before in
-    rw (state-is _ _ i.before.before.read.ensures (opens i)) at c.batch-on.ensures.0
+    rw (state-is _ _ i.before.before.read-opened.ensures (opens i)) at c.batch_on-done.ensures.answer
 
-returns : tie.Need-returns
+returns : tie.Need-returns-then-code-ne0
 unfolding batch_on_code batch_on_taken batch_on_cells
-returns c = rw (← (code c.before), ne_eqb _ _ c.if1.true) (refl, (refl, refl))
+returns c = rw (← (code c.before), ne_eqb _ _ c.if-code-ne0.true) (refl, (refl, refl))
 
-returns-2 : tie.Need-returns-2
+returns-2 : tie.Need-returns
 unfolding batch_on_code batch_on_taken batch_on_cells
 returns-2 c =
     let b = c.before.before in
     let i = b.before.before.before in
     let e = done b in
     rw (opens i)
-    (c.code-of2.ensures ∙ ap (λ (r : Batched). outcome_code r.outcome) e, (ap (λ (r : Batched). r.taken) e, b.batch-on.ensures.1 ∙ rw (state-is _ _ i.before.before.read.ensures (opens i))))
+    (c.code_of.ensures ∙ ap (λ (r : Batched). outcome_code r.outcome) e, (ap (λ (r : Batched). r.taken) e, b.batch_on-done.ensures.buffer ∙ rw (state-is _ _ i.before.before.read-opened.ensures (opens i))))
 
-pub bench-batch-on-spec : {M : Type 1} → statement M
-bench-batch-on-spec =
+pub bench_batch_on_spec : {M : Type 1} → statement M
+bench_batch_on_spec =
     tie.close
     (tie.spec
     (λ c κs. search rules)

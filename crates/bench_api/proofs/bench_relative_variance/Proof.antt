@@ -10,45 +10,45 @@ use borrow.Author.Rules.{rules}
 use Rattle.bench_api.proofs.bench_relative_variance.Statement.{statement}
 use Rattle.bench_api.proofs.bench_relative_variance.Tie as tie
 
-code : (c : tie.After-code-of) → c.code_of.result ≡ in_place_code c.before.before.before.before.args.snapshot.now
-code c = c.code_of.ensures ∙ code_is _ _ c.before.read.ensures
+code : (c : tie.After-code_of-code) → c.code_of-code.result ≡ in_place_code c.before.before.before.before.args.snapshot.now
+code c = c.code_of-code.ensures ∙ code_is _ _ c.before.read-opened.ensures
 
 -- where it is 0, the state is the one that the slice holds
-opens : (c : tie.Else1) → in_place_code c.before.before.before.before.before.args.snapshot.now ≡ 0
-opens c = sym (code c.before) ∙ c.if1.false
+opens : (c : tie.Else-code-ne0) → in_place_code c.before.before.before.before.before.args.snapshot.now ≡ 0
+opens c = sym (code c.before) ∙ c.if-code-ne0.false
 
-returns : tie.Need-returns
+returns : tie.Need-returns-then-code-ne0
 unfolding in_place_relative_code in_place_relative_value in_place_relative_cells
-returns c = rw (← (code c.before), ne_eqb _ _ c.if1.true) (refl, (refl, refl))
+returns c = rw (← (code c.before), ne_eqb _ _ c.if-code-ne0.true) (refl, (refl, refl))
 
 -- what the call on that state answered
-module _ (c : tie.After-relative-variance) where
+module _ (c : tie.After-relative_variance) where
   abbrev s : tie.Start
   s = c.before.before.before.before.before.before.before.before
 
-  abbrev i : tie.Else1
+  abbrev i : tie.Else-code-ne0
   i = c.before.before.before
 
-  found : c.relative-variance.result ≡ relative_variance (decoded s.args.snapshot.now) s.args.horizon s.args.sigma2 (length s.args.thetas.now)
-  found = rw (state-is _ _ i.before.before.read.ensures (opens i)) at c.relative-variance.ensures.0
+  found : c.relative_variance.result ≡ relative_variance (decoded s.args.snapshot.now) s.args.horizon s.args.sigma2 (length s.args.thetas.now)
+  found = rw (state-is _ _ i.before.before.read-opened.ensures (opens i)) at c.relative_variance.ensures.answer
 
-  cells : c.relative-variance.new.1.1.1.0 ≡ relative_cells (decoded s.args.snapshot.now) s.args.horizon s.args.sigma2 s.args.thetas.now
-  cells = rw (state-is _ _ i.before.before.read.ensures (opens i)) at c.relative-variance.ensures.1
+  cells : c.relative_variance.new.1.1.1.0 ≡ relative_cells (decoded s.args.snapshot.now) s.args.horizon s.args.sigma2 s.args.thetas.now
+  cells = rw (state-is _ _ i.before.before.read-opened.ensures (opens i)) at c.relative_variance.ensures.buffer
 
-returns-2 : tie.Need-returns-2
+returns-2 : tie.Need-returns-in-Accepted
 unfolding in_place_relative_code in_place_relative_value in_place_relative_cells
 returns-2 c =
     let f = c.before.before.before.before.before in
-    rw (opens (i f), sym (found f) ∙ c.before.v.given.1) (refl, (refl, cells f))
+    rw (opens (i f), sym (found f) ∙ c.before.v-1.given.1) (refl, (refl, cells f))
 
-returns-3 : tie.Need-returns-3
+returns-3 : tie.Need-returns-in-Rejected
 unfolding in_place_relative_code in_place_relative_value in_place_relative_cells
 returns-3 c =
     let f = c.before.before.before.before.before in
-    rw (opens (i f), sym (found f) ∙ c.before.n.given.1) (refl, (refl, cells f))
+    rw (opens (i f), sym (found f) ∙ c.before.n-1.given.1) (refl, (refl, cells f))
 
-pub bench-relative-variance-spec : {M : Type 1} → statement M
-bench-relative-variance-spec =
+pub bench_relative_variance_spec : {M : Type 1} → statement M
+bench_relative_variance_spec =
     tie.close
     (tie.spec
     (λ c κs. search rules)

@@ -12,21 +12,21 @@ use mathlib.Core.Path.{sym, ap, ◌∙◌}
 use Rattle.commands.proofs.perform.Statement.{statement}
 use Rattle.commands.proofs.perform.Tie as tie
 
-returns : tie.Need-returns
-returns c = performed _ _ _ _ c.before.before.before.before.decode.ensures c.before.enum_told.given.1 _ _ c.finish.ensures
+returns : tie.Need-returns-in-End
+returns c = performed _ _ _ _ c.before.before.before.before.decode-found.ensures c.before.enum_told-1.given.1 _ _ c.finish.ensures
 
 open-requires : tie.Need-open-requires
-open-requires c κs = inside _ _ _ _ (ap (λ (d : Decoded). d.command) (sym c.before.before.before.decode.ensures) ∙ c.enum-told2.given.1)
+open-requires c κs = inside _ _ _ _ (ap (λ (d : Decoded). d.command) (sym c.before.before.before.decode-found.ensures) ∙ c.enum_told-in-Open-1.given.1)
 
-returns-2 : tie.Need-returns-2
-returns-2 c = performed _ _ _ _ c.before.before.before.before.decode.ensures c.before.enum-told2.given.1 _ _ c.open.ensures
+returns-2 : tie.Need-returns-in-Open
+returns-2 c = performed _ _ _ _ c.before.before.before.before.decode-found.ensures c.before.enum_told-in-Open-1.given.1 _ _ c.open.ensures
 
-module _ (c : tie.At-match-branch) where
+module _ (c : tie.At-match-command) where
   acted : let a = c.before.before.before.before.before.before.args in
-      Done a.stream.now a.session a.checkpoints.now a.buffer.now c.before.before.decode.result c.match.action c.match.checkpoints c.match.buffer
+      Done a.stream.now a.session a.checkpoints.now a.buffer.now c.before.before.decode-found.result c.match-command.action c.match-command.checkpoints c.match-command.buffer
   acted =
       let a = c.before.before.before.before.before.before.args in
-      let k = done a.stream.now a.session a.checkpoints.now a.buffer.now c.before.before.decode.result in
+      let k = done a.stream.now a.session a.checkpoints.now a.buffer.now c.before.before.decode-found.result in
       ⊎_elim
       (λ w. k (CommandOf.Reading _) w.1.given.1 (rw (to_z-of_z w32 w.1.given.0.0 (search rules)) at (w.6 ∙ w.3.ensures)) w.4 w.5 (ap length w.4, ap length w.5))
       (λ u1. ⊎_elim
@@ -46,19 +46,19 @@ module _ (c : tie.At-match-branch) where
       (λ u8. ⊎_elim
       (λ w. k (CommandOf.Store _) w.1.given.1 (w.9 ∙ w.4.ensures.0) (w.7 ∙ w.4.ensures.1) w.8 (ap length w.7 ∙ search rules, ap length w.8))
       (λ w. k (CommandOf.Restore _) w.1.given.1 (w.7 ∙ w.4.ensures) w.5 w.6 (ap length w.5, ap length w.6)) u8) u7) u6) u5) u4) u3) u2) u1)
-      c.match.branch
+      c.match-command.branch
 
-same_length : tie.Need-same-length
+same_length : tie.Need-shape_of-checkpoints
 same_length c = (acted c.before).as_many.0
 
-same-length-2 : tie.Need-same-length-2
+same-length-2 : tie.Need-shape_of-buffer
 same-length-2 c = (acted c.before).as_many.1
 
-returns-3 : tie.Need-returns-3
-returns-3 c = performs-it _ _ _ _ _ c.before.before.before.decode.ensures (acted c.before) c.settle.ensures
+returns-3 : tie.Need-returns
+returns-3 c = performs-it _ _ _ _ _ c.before.before.before.decode-found.ensures (acted c.before) c.settle.ensures
 
-pub perform-spec : {M : Type 1} → statement M
-perform-spec =
+pub perform_spec : {M : Type 1} → statement M
+perform_spec =
     tie.close
     (tie.spec
     (λ c κs. search rules)

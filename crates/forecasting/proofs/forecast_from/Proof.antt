@@ -20,23 +20,23 @@ use borrow.Author.Rules.{rules}
 use Rattle.forecasting.proofs.forecast_from.Statement.{statement}
 use Rattle.forecasting.proofs.forecast_from.Tie as tie
 
-code : (c : tie.After-from-code) → let s = c.before.args in forecast_from_code s.level s.phi s.trend s.season s.h ≡ c.from-code.result
+code : (c : tie.After-from_code-n) → let s = c.before.args in forecast_from_code s.level s.phi s.trend s.season s.h ≡ c.from_code-n.result
 code c =
     let s = c.before in
-    sym (rw (to_z-of_z s.ranges.level, to_z-of_z s.ranges.trend, to_z-of_z s.ranges.season) at c.from-code.ensures)
+    sym (rw (to_z-of_z s.ranges.level, to_z-of_z s.ranges.trend, to_z-of_z s.ranges.season) at c.from_code-n.ensures)
 
 -- what the tests let pass
-record Ready (c : tie.Else1) : Type 0 where
+record Ready (c : tie.Else-n-ne0) : Type 0 where
   phi : c.before.before.args.phi ≤ 65536
   level : Within 1099511627776 c.before.before.args.level
   trend : Within 1099511627776 c.before.before.args.trend
   season : Within 1099511627776 c.before.before.args.season
   horizon : c.before.before.args.h ≤ 512
 
-ready : (c : tie.Else1) → Ready c
+ready : (c : tie.Else-n-ne0) → Ready c
 ready c =
     let s = c.before.before.args in
-    let z = unless-then (leb s.phi 65536) 6 _ (code c.before ∙ c.if1.false) in
+    let z = unless-then (leb s.phi 65536) 6 _ (code c.before ∙ c.if-n-ne0.false) in
     let y = unless-then (in_range s.level && in_range s.trend && in_range s.season) 8 _ z.1 in
     let v = both (in_range s.level && in_range s.trend) (in_range s.season) y.0 in
     let u = both (in_range s.level) (in_range s.trend) v.0 in
@@ -48,33 +48,39 @@ ready c =
       horizon = leb-true s.h 512 (both (leb 1 s.h) (leb s.h 512) (unless-zero _ 10 y.1)).1;
     }
 
-sum_fits : (c : tie.After-trend-line) → SFits w64 (c.trend-line.result +ℤ c.before.before.before.args.season)
-sum_fits c = within-fits w64 (within-add c.trend-line.ensures.1 (ready c.before).season) (omega arith)
+sum_fits : (c : tie.After-trend_line) → SFits w64 (c.trend_line.result +ℤ c.before.before.before.args.season)
+sum_fits c = within-fits w64 (within-add c.trend_line.ensures.bound (ready c.before).season) (omega arith)
 
-machine-is : (c : tie.After-trend-line) → to_z w64 (of_z w64 (to_z w64 (of_z w64 c.trend-line.result) +ℤ to_z w64 (of_z w64 c.before.before.before.args.season))) ≡ c.trend-line.result +ℤ c.before.before.before.args.season
+machine-is : (c : tie.After-trend_line) → to_z w64 (of_z w64 (to_z w64 (of_z w64 c.trend_line.result) +ℤ to_z w64 (of_z w64 c.before.before.before.args.season))) ≡ c.trend_line.result +ℤ c.before.before.before.args.season
 machine-is c =
-    rw (back w64 c.trend-line.result c.trend-line.type-inv, to_z-of_z c.before.before.before.ranges.season) (to_z-of_z (sum_fits c))
+    rw (back w64 c.trend_line.result c.trend_line.type_inv, to_z-of_z c.before.before.before.ranges.season) (to_z-of_z (sum_fits c))
 
-returns : tie.Need-returns
+returns : tie.Need-returns-then-n-ne0
 unfolding forecast_from
-returns c = rw (code c.before, ne_eqb _ _ c.if1.true)
+returns c = rw (code c.before, ne_eqb _ _ c.if-n-ne0.true)
 
-trend-line-requires : tie.Need-trend-line-requires
+trend-line-requires : tie.Need-trend_line-requires
 trend-line-requires c κs =
     let s = c.before.before in
     let r = ready c in
     rw (to_z-of_z s.ranges.level, to_z-of_z s.ranges.trend) (r.phi, r.level, r.trend, r.horizon)
 
-add-t10 : tie.Need-overflow-add-t10
-add-t10 c = let s = c.before.before.before in rw (back w64 c.trend-line.result c.trend-line.type-inv, to_z-of_z s.ranges.season) (sum_fits c)
+add-t10 : tie.Need-overflow_add-result
+add-t10 c = let s = c.before.before.before in rw (back w64 c.trend_line.result c.trend_line.type_inv, to_z-of_z s.ranges.season) (sum_fits c)
 
-returns-2 : tie.Need-returns-2
+returns-2 : tie.Need-returns
 unfolding forecast_from
 returns-2 c =
     let i = c.before in
     let s = i.before.before in
-    rw (code i.before, eq-eqb _ _ i.if1.false, machine-is c, c.trend-line.ensures.0, to_z-of_z s.ranges.level, to_z-of_z s.ranges.trend)
+    rw (code i.before, eq-eqb _ _ i.if-n-ne0.false, machine-is c, c.trend_line.ensures.value, to_z-of_z s.ranges.level, to_z-of_z s.ranges.trend)
 
-pub forecast-from-spec : {M : Type 1} → statement M
-forecast-from-spec =
-    tie.close (tie.spec (λ c κs. search rules) returns trend-line-requires add-t10 returns-2)
+pub forecast_from_spec : {M : Type 1} → statement M
+forecast_from_spec =
+    tie.close
+    (tie.spec
+    (λ c κs. search rules)
+    returns
+    trend-line-requires
+    add-t10
+    returns-2)

@@ -15,52 +15,52 @@ use Rattle.forecasts.proofs.ForecastLaws.{Ready, forecast-ready}
 use Rattle.forecasting.proofs.forecast_to.Statement.{statement}
 use Rattle.forecasting.proofs.forecast_to.Tie as tie
 
-ready : (c : tie.Else1) → let s = c.before.before.args in Ready s.limit s.s s.h
-ready c = forecast-ready _ _ _ (sym c.before.forecast-code-to.ensures ∙ c.if1.false)
+ready : (c : tie.Else-n-ne0) → let s = c.before.before.args in Ready s.limit s.s s.h
+ready c = forecast-ready _ _ _ (sym c.before.forecast_code_to-n.ensures ∙ c.if-n-ne0.false)
 
-facts : (c : tie.Else1) → Valid c.before.before.args.s
+facts : (c : tie.Else-n-ne0) → Valid c.before.before.args.s
 facts c = valid _ (ready c).valid
 
-level_is : (c : tie.Else1) → to_z w64 (of_z w64 c.before.before.args.s.level) ≡ c.before.before.args.s.level
+level_is : (c : tie.Else-n-ne0) → to_z w64 (of_z w64 c.before.before.args.s.level) ≡ c.before.before.args.s.level
 level_is c = within-back w64 (facts c).bounded.level (omega arith)
 
-trend_is : (c : tie.Else1) → to_z w64 (of_z w64 c.before.before.args.s.trend) ≡ c.before.before.args.s.trend
+trend_is : (c : tie.Else-n-ne0) → to_z w64 (of_z w64 c.before.before.args.s.trend) ≡ c.before.before.args.s.trend
 trend_is c = within-back w64 (facts c).bounded.trend (omega arith)
 
-sum_fits : (c : tie.After-season-at) → SFits w64 (c.before.trend-line.result +ℤ c.season-at.result)
-sum_fits c = within-fits w64 (within-add c.before.trend-line.ensures.1 c.season-at.ensures.1) (omega arith)
+sum_fits : (c : tie.After-season_at) → SFits w64 (c.before.trend_line.result +ℤ c.season_at.result)
+sum_fits c = within-fits w64 (within-add c.before.trend_line.ensures.bound c.season_at.ensures.bound) (omega arith)
 
-machine-is : (c : tie.After-season-at) → to_z w64 (of_z w64 (to_z w64 (of_z w64 c.before.trend-line.result) +ℤ to_z w64 (of_z w64 c.season-at.result))) ≡ c.before.trend-line.result +ℤ c.season-at.result
+machine-is : (c : tie.After-season_at) → to_z w64 (of_z w64 (to_z w64 (of_z w64 c.before.trend_line.result) +ℤ to_z w64 (of_z w64 c.season_at.result))) ≡ c.before.trend_line.result +ℤ c.season_at.result
 machine-is c =
-    rw (back w64 c.before.trend-line.result c.before.trend-line.type-inv, back w64 c.season-at.result c.season-at.type-inv) (to_z-of_z w64 _ (sum_fits c))
+    rw (back w64 c.before.trend_line.result c.before.trend_line.type_inv, back w64 c.season_at.result c.season_at.type_inv) (to_z-of_z w64 _ (sum_fits c))
 
-returns : tie.Need-returns
+returns : tie.Need-returns-then-n-ne0
 unfolding forecast_to
-returns c = rw (← c.before.forecast-code-to.ensures, ne_eqb _ _ c.if1.true)
+returns c = rw (← c.before.forecast_code_to-n.ensures, ne_eqb _ _ c.if-n-ne0.true)
 
-trend-line-requires : tie.Need-trend-line-requires
+trend-line-requires : tie.Need-trend_line-requires
 trend-line-requires c κs =
     let q = c.before.before.before in
     let b = (facts q).bounded in
     rw (level_is q, trend_is q) (b.phi, b.level, b.trend, omega (arith, (ready q).most, q.before.before.requires))
 
-season-at-requires : tie.Need-season-at-requires
+season-at-requires : tie.Need-season_at-requires
 season-at-requires c κs =
     let q = c.before.before.before.before in
     (facts q, (ready q).least, omega (arith, (ready q).most, q.before.before.requires))
 
-add-t8 : tie.Need-overflow-add-t8
-add-t8 c = rw (back w64 c.before.trend-line.result c.before.trend-line.type-inv, back w64 c.season-at.result c.season-at.type-inv) (sum_fits c)
+add-t8 : tie.Need-overflow_add-result
+add-t8 c = rw (back w64 c.before.trend_line.result c.before.trend_line.type_inv, back w64 c.season_at.result c.season_at.type_inv) (sum_fits c)
 
-returns-2 : tie.Need-returns-2
+returns-2 : tie.Need-returns
 unfolding forecast_to forecast_of
 returns-2 c =
     let t = c.before in
     let q = t.before.before.before.before in
-    rw (← q.before.forecast-code-to.ensures, eq-eqb _ _ q.if1.false, machine-is c, t.trend-line.ensures.0, t.before.before.before.ties-to-even.ensures, level_is q, trend_is q, c.season-at.ensures.0)
+    rw (← q.before.forecast_code_to-n.ensures, eq-eqb _ _ q.if-n-ne0.false, machine-is c, t.trend_line.ensures.value, t.before.before.before.ties_to_even.ensures, level_is q, trend_is q, c.season_at.ensures.value)
 
-pub forecast-to-spec : {M : Type 1} → statement M
-forecast-to-spec =
+pub forecast_to_spec : {M : Type 1} → statement M
+forecast_to_spec =
     tie.close
     (tie.spec
     (λ c κs. search rules)

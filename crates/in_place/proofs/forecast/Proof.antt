@@ -33,47 +33,47 @@ unfolding in_place_forecast
 put d h old e = rw (← e)
 
 -- the slice and the horizon
-module _ (c : tie.After-slice-numbers) where
+module _ (c : tie.After-slice_numbers-x) where
   abbrev d : List ℕ
   d = c.before.before.args.snapshot.now
 
   abbrev h : ℕ
   h = c.before.before.args.horizon
 
-  goes_by : Found d c.slice-numbers.result
-  goes_by = found d c.slice-numbers.result c.before.shared-slice-known.given c.slice-numbers.ensures
+  goes_by : Found d c.slice_numbers-x.result
+  goes_by = found d c.slice_numbers-x.result c.before.shared_slice_known-1.given c.slice_numbers-x.ensures
 
-held : (c : tie.Else1) → Held (d c.before) c.before.slice-numbers.result
-held c = holds (d c.before) _ (goes_by c.before) c.if1.false
+held : (c : tie.Else-code-ne0) → Held (d c.before) c.before.slice_numbers-x.result
+held c = holds (d c.before) _ (goes_by c.before) c.if-code-ne0.false
 
-module _ (c : tie.After-forecast-from) where
-  abbrev a : tie.After-season-ahead
+module _ (c : tie.After-forecast_from) where
+  abbrev a : tie.After-season_ahead-season
   a = c.before.before.before
 
-  abbrev q : tie.Else1
+  abbrev q : tie.Else-code-ne0
   q = a.before.before
 
-  abbrev o : tie.After-slice-numbers
+  abbrev o : tie.After-slice_numbers-x
   o = q.before
 
   abbrev s : State
   s = decoded (d o)
 
   opens : open_code (d o) ≡ 0
-  opens = (one-snapshot (d o) (sym (goes_by o).code ∙ q.if1.left)).0
+  opens = (one-snapshot (d o) (sym (goes_by o).code ∙ q.if-code-ne0.left)).0
 
   abbrev v : ℤ
   v = ahead_value (d o) opens (h o)
 
-  forecasted : c.forecast-from.result ≡ forecast_from (ties_to_even s.model) s.level s.phi s.trend v (h o)
+  forecasted : c.forecast_from.result ≡ forecast_from (ties_to_even s.model) s.level s.phi s.trend v (h o)
   forecasted =
-      let n = o.slice-numbers.result.numbers in
+      let n = o.slice_numbers-x.result.numbers in
       let e = (held q).numbers in
-      let t = c.before.struct-told2.given in
+      let t = c.before.struct_told-2-1.given in
       let l = back w64 n.level t.1.1.1.1.0.1 ∙ ap (λ (n : Numbers). n.level) e in
       let b = back w64 n.trend t.1.1.1.1.1.0.1 ∙ ap (λ (n : Numbers). n.trend) e in
-      let w = back w64 a.season-ahead.result a.season-ahead.ok ∙ a.season-ahead.ensures ∙ ap₂ (λ (m p : ℕ). ahead_in (d o) m p (h o)) (held q).period (held q).index in
-      c.forecast-from.ensures ∙ same _ _ _ _ _ _ _ _ _ _ (h o) (held q).even l (ap (λ (n : Numbers). n.phi) e) b w
+      let w = back w64 a.season_ahead-season.result a.season_ahead-season.ok ∙ a.season_ahead-season.ensures ∙ ap₂ (λ (m p : ℕ). ahead_in (d o) m p (h o)) (held q).period (held q).index in
+      c.forecast_from.ensures ∙ same _ _ _ _ _ _ _ _ _ _ (h o) (held q).even l (ap (λ (n : Numbers). n.phi) e) b w
     where
       same : (x x' : Bool) (l l' : ℤ) (F F' : ℕ) (b b' s s' : ℤ) (h : ℕ) → x ≡ x' → l ≡ l' → F ≡ F' → b ≡ b' → s ≡ s' → forecast_from x l F b s h ≡ forecast_from x' l' F' b' s' h
       same x x' l l' F F' b b' s s' h ex el ef eb es = rw (ex, el, ef, eb, es)
@@ -87,37 +87,37 @@ module _ (c : tie.After-forecast-from) where
 
   told : (n : ℕ) → forecast_from_code s.level s.phi s.trend v (h o) ≡ n → n ≡ in_place_forecast_code (d o) (h o)
   unfolding in_place_forecast_code
-  told n z = is_read (d o) _ (goes_by o) (forecast_code s (h o)) q.if1.left n (sym z ∙ code_is)
+  told n z = is_read (d o) _ (goes_by o) (forecast_code s (h o)) q.if-code-ne0.left n (sym z ∙ code_is)
 
-unopened : (c : tie.Then1) → c.before.slice-numbers.result.code ≡ in_place_forecast_code (d c.before) (h c.before)
+unopened : (c : tie.Then-code-ne0) → c.before.slice_numbers-x.result.code ≡ in_place_forecast_code (d c.before) (h c.before)
 unfolding in_place_forecast_code
 unopened c =
-    not-read (d c.before) _ (goes_by c.before) (forecast_code (decoded (d c.before)) (h c.before)) c.if1.true
+    not-read (d c.before) _ (goes_by c.before) (forecast_code (decoded (d c.before)) (h c.before)) c.if-code-ne0.true
 
-returns : tie.Need-returns
-returns c = let o = c.before in let e = unopened c in (e, kept (d o) (h o) _ _ e c.if1.true)
+returns : tie.Need-returns-then-code-ne0
+returns c = let o = c.before in let e = unopened c in (e, kept (d o) (h o) _ _ e c.if-code-ne0.true)
 
-season-ahead-requires : tie.Need-season-ahead-requires
-season-ahead-requires c κs = let i = c.before in room_in (d i.before) _ (goes_by i.before) i.if1.false
+season-ahead-requires : tie.Need-season_ahead-season-requires
+season-ahead-requires c κs = let i = c.before in room_in (d i.before) _ (goes_by i.before) i.if-code-ne0.false
 
-returns-2 : tie.Need-returns-2
+returns-2 : tie.Need-returns-in-Rejected
 unfolding forecast_from
 returns-2 c =
     let f = c.before.before.before in
-    let r = answer-rejected _ _ c.before.k.given.0.0 (sym (forecasted f) ∙ c.before.k.given.1) in
+    let r = answer-rejected _ _ c.before.k-1.given.0.0 (sym (forecasted f) ∙ c.before.k-1.given.1) in
     let e = told f _ r.0 in
     (e, kept (d (o f)) (h (o f)) _ _ e (λ n. r.1 (r.0 ∙ n)))
 
-returns-3 : tie.Need-returns-3
+returns-3 : tie.Need-returns-in-Accepted
 unfolding forecast_from
 returns-3 c =
     let f = c.before.before.before in
-    let r = answer-accepted _ _ c.before.v.given.0.0 (sym (forecasted f) ∙ c.before.v.given.1) in
+    let r = answer-accepted _ _ c.before.v-1.given.0.0 (sym (forecasted f) ∙ c.before.v-1.given.1) in
     let e = told f 0 r.0 in
-    (e, to_z-of_z w64 c.before.v.given.0.0 (search rules) ∙ sym r.1 ∙ value-is f (sym (code_is f) ∙ r.0) ∙ put (d (o f)) (h (o f)) _ e)
+    (e, to_z-of_z w64 c.before.v-1.given.0.0 (search rules) ∙ sym r.1 ∙ value-is f (sym (code_is f) ∙ r.0) ∙ put (d (o f)) (h (o f)) _ e)
 
-pub forecast-spec : {M : Type 1} → statement M
-forecast-spec =
+pub forecast_spec : {M : Type 1} → statement M
+forecast_spec =
     tie.close
     (tie.spec
     (λ c κs. search rules)

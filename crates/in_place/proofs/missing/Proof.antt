@@ -26,51 +26,51 @@ abbrev next : State → State
 next s = after_missing s
 
 -- the slice at entry, and its rejection
-module _ (c : tie.After-rewrite-code) where
+module _ (c : tie.After-rewrite_code-code) where
   abbrev d : List ℕ
   d = c.before.before.before.before.args.snapshot.now
 
-  goes_by : Found d c.before.slice-numbers.result
-  goes_by = found d c.before.slice-numbers.result c.before.before.before.slice-known.given c.before.slice-numbers.ensures
+  goes_by : Found d c.before.slice_numbers-x.result
+  goes_by = found d c.before.slice_numbers-x.result c.before.before.before.slice_known-1.given c.before.slice_numbers-x.ensures
 
-  rewritable : c.rewrite-code.result ≡ rewrite_code d
-  rewritable = rewrite-is d _ goes_by _ c.rewrite-code.ensures
+  rewritable : c.rewrite_code-code.result ≡ rewrite_code d
+  rewritable = rewrite-is d _ goes_by _ c.rewrite_code-code.ensures
 
-module _ (c : tie.After-update-missing) where
-  abbrev k : tie.After-rewrite-code
+module _ (c : tie.After-update_missing-u) where
+  abbrev k : tie.After-rewrite_code-code
   k = c.before.before.before
 
-  held : Held (d k) k.before.slice-numbers.result
-  held = holds (d k) _ (goes_by k) ((goes_by k).code ∙ (rewrite-facts (d k) _ (rewritable k) c.before.before.if1.false).0)
+  held : Held (d k) k.before.slice_numbers-x.result
+  held = holds (d k) _ (goes_by k) ((goes_by k).code ∙ (rewrite-facts (d k) _ (rewritable k) c.before.before.if-code-ne0.false).0)
 
-  update-is : c.update-missing.result ≡ update_missing (ties_to_even (decoded (d k)).model) (numbers_of (decoded (d k)))
-  update-is = c.update-missing.ensures ∙ ap₂ (λ (even : Bool) (n : Numbers). update_missing even n) held.even held.numbers
+  update-is : c.update_missing-u.result ≡ update_missing (ties_to_even (decoded (d k)).model) (numbers_of (decoded (d k)))
+  update-is = c.update_missing-u.ensures ∙ ap₂ (λ (even : Bool) (n : Numbers). update_missing even n) held.even held.numbers
 
-  code_is : c.update-missing.result.code ≡ missing_code (decoded (d k))
+  code_is : c.update_missing-u.result.code ≡ missing_code (decoded (d k))
   code_is = ap (λ (u : Update). u.code) update-is ∙ update-missing-code (decoded (d k)) held.passes
 
-  told : (n : ℕ) → c.update-missing.result.code ≡ n → n ≡ in_place_missing_code (d k)
+  told : (n : ℕ) → c.update_missing-u.result.code ≡ n → n ≡ in_place_missing_code (d k)
   unfolding in_place_missing_code
-  told n z = opened (d k) _ (rewritable k) missing_code c.before.before.if1.false n (sym z ∙ code_is)
+  told n z = opened (d k) _ (rewritable k) missing_code c.before.before.if-code-ne0.false n (sym z ∙ code_is)
 
-returns : tie.Need-returns
+returns : tie.Need-returns-then-code-ne0
 unfolding in_place_missing_code in_place_missing_bytes
 returns c =
     let q = c.before in
-    let e = unopened (d q) _ (rewritable q) missing_code c.if1.true in
-    (e, (rejected missing_code next (λ s. pos 0) (d q) (pos 0) _ e c.if1.true).0)
+    let e = unopened (d q) _ (rewritable q) missing_code c.if-code-ne0.true in
+    (e, (rejected missing_code next (λ s. pos 0) (d q) (pos 0) _ e c.if-code-ne0.true).0)
 
-returns-2 : tie.Need-returns-2
+returns-2 : tie.Need-returns-then-rejection-ne0
 unfolding in_place_missing_code in_place_missing_bytes
 returns-2 c =
     let q = k c.before in
     let e = told c.before _ refl in
-    (e, (rejected missing_code next (λ s. pos 0) (d q) (pos 0) _ e c.if2.true).0)
+    (e, (rejected missing_code next (λ s. pos 0) (d q) (pos 0) _ e c.if-rejection-ne0.true).0)
 
 upgrade-requires : tie.Need-upgrade-requires
 upgrade-requires c κs =
     let u = c.before.before in
-    (sym (rewritable (k u)) ∙ u.before.before.if1.false, (held u).scored)
+    (sym (rewritable (k u)) ∙ u.before.before.if-code-ne0.false, (held u).scored)
 
 advance-requires : tie.Need-advance-requires
 advance-requires c κs =
@@ -79,10 +79,10 @@ advance-requires c κs =
     let u = i.before in
     let h = held u in (
       room-is (d (k u)) _ h _ r.upgrade.ensures,
-      rw (count-is (d (k u)) _ h _ r.upgrade.ensures) (missing-facts (decoded (d (k u))) (sym (code_is u) ∙ i.if2.false)).room,
+      rw (count-is (d (k u)) _ h _ r.upgrade.ensures) (missing-facts (decoded (d (k u))) (sym (code_is u) ∙ i.if-rejection-ne0.false)).room,
     )
 
-returns-3 : tie.Need-returns-3
+returns-3 : tie.Need-returns
 unfolding in_place_missing_code in_place_missing_bytes
 returns-3 c =
     let w = c.before.before in
@@ -90,11 +90,11 @@ returns-3 c =
     let i = r.before.before in
     let u = i.before in
     let q = k u in
-    let x = q.before.slice-numbers.result in
-    let n = u.update-missing.result in
-    let t = w.before.struct-told2.given in
-    let z = sym (code_is u) ∙ i.if2.false in
-    let e = told u 0 i.if2.false in (
+    let x = q.before.slice_numbers-x.result in
+    let n = u.update_missing-u.result in
+    let t = w.before.struct_told-2-1.given in
+    let z = sym (code_is u) ∙ i.if-rejection-ne0.false in
+    let e = told u 0 i.if-rejection-ne0.false in (
       e,
       w.advance.ensures
           ∙ ap₂ (λ (l b : ℤ). advanced_on r.upgrade.new.0 x.period x.index x.numbers.count l b) (back w64 n.level t.1.0.1) (back w64 n.trend t.1.1.0.1)
@@ -102,8 +102,8 @@ returns-3 c =
           ∙ (accepted-call missing_code next (λ s. pos 0) (d q) (pos 0) e).0,
     )
 
-pub missing-spec : {M : Type 1} → statement M
-missing-spec =
+pub missing_spec : {M : Type 1} → statement M
+missing_spec =
     tie.close
     (tie.spec
     (λ c κs. search rules)

@@ -25,7 +25,7 @@ use Rattle.in_place.proofs.step.Statement.{statement}
 use Rattle.in_place.proofs.step.Tie as tie
 
 -- the slice at entry, its rejection, the reading, and the call on a state
-module _ (c : tie.After-rewrite-code) where
+module _ (c : tie.After-rewrite_code-code) where
   abbrev d : List ℕ
   d = c.before.before.before.before.args.snapshot.now
 
@@ -41,69 +41,69 @@ module _ (c : tie.After-rewrite-code) where
   abbrev value : State → ℤ
   value s = residual_of s y
 
-  goes_by : Found d c.before.slice-numbers.result
-  goes_by = found d c.before.slice-numbers.result c.before.before.before.slice-known.given c.before.slice-numbers.ensures
+  goes_by : Found d c.before.slice_numbers-x.result
+  goes_by = found d c.before.slice_numbers-x.result c.before.before.before.slice_known-1.given c.before.slice_numbers-x.ensures
 
-  rewritable : c.rewrite-code.result ≡ rewrite_code d
-  rewritable = rewrite-is d _ goes_by _ c.rewrite-code.ensures
+  rewritable : c.rewrite_code-code.result ≡ rewrite_code d
+  rewritable = rewrite-is d _ goes_by _ c.rewrite_code-code.ensures
 
-module _ (c : tie.After-update) where
-  abbrev k : tie.After-rewrite-code
+module _ (c : tie.After-update-u) where
+  abbrev k : tie.After-rewrite_code-code
   k = c.before.before.before
 
-  held : Held (d k) k.before.slice-numbers.result
-  held = holds (d k) _ (goes_by k) ((goes_by k).code ∙ (rewrite-facts (d k) _ (rewritable k) c.before.before.if1.false).0)
+  held : Held (d k) k.before.slice_numbers-x.result
+  held = holds (d k) _ (goes_by k) ((goes_by k).code ∙ (rewrite-facts (d k) _ (rewritable k) c.before.before.if-code-ne0.false).0)
 
-  update-is : c.update.result ≡ update (ties_to_even (decoded (d k)).model) (numbers_of (decoded (d k))) (y k)
-  update-is = (rw (to_z-of_z k.before.before.before.before.fits.reading) at c.update.ensures) ∙ ap₂ (λ (even : Bool) (n : Numbers). update even n (y k)) held.even held.numbers
+  update-is : c.update-u.result ≡ update (ties_to_even (decoded (d k)).model) (numbers_of (decoded (d k))) (y k)
+  update-is = (rw (to_z-of_z k.before.before.before.before.fits.reading) at c.update-u.ensures) ∙ ap₂ (λ (even : Bool) (n : Numbers). update even n (y k)) held.even held.numbers
 
-  code_is : c.update.result.code ≡ step_code (decoded (d k)) (y k)
+  code_is : c.update-u.result.code ≡ step_code (decoded (d k)) (y k)
   code_is = ap (λ (u : Update). u.code) update-is ∙ direct-code (decoded (d k)) held.passes (y k)
 
-  told : (n : ℕ) → c.update.result.code ≡ n → n ≡ in_place_step_code (d k) (y k)
+  told : (n : ℕ) → c.update-u.result.code ≡ n → n ≡ in_place_step_code (d k) (y k)
   unfolding in_place_step_code
-  told n z = opened (d k) _ (rewritable k) (code k) c.before.before.if1.false n (sym z ∙ code_is)
+  told n z = opened (d k) _ (rewritable k) (code k) c.before.before.if-code-ne0.false n (sym z ∙ code_is)
 
-returns : tie.Need-returns
+returns : tie.Need-returns-then-code-ne0
 unfolding in_place_step_code in_place_step_bytes in_place_residual
 returns c =
     let q = c.before in
-    let e = unopened (d q) _ (rewritable q) (code q) c.if1.true in
-    (e, rejected (code q) (next q) (value q) (d q) _ _ e c.if1.true)
+    let e = unopened (d q) _ (rewritable q) (code q) c.if-code-ne0.true in
+    (e, rejected (code q) (next q) (value q) (d q) _ _ e c.if-code-ne0.true)
 
-returns-2 : tie.Need-returns-2
+returns-2 : tie.Need-returns-then-rejection-ne0
 unfolding in_place_step_code in_place_step_bytes in_place_residual
 returns-2 c =
     let q = k c.before in
     let e = told c.before _ refl in
-    (e, rejected (code q) (next q) (value q) (d q) _ _ e c.if2.true)
+    (e, rejected (code q) (next q) (value q) (d q) _ _ e c.if-rejection-ne0.true)
 
 upgrade-requires : tie.Need-upgrade-requires
 upgrade-requires c κs =
     let u = c.before.before.before.before.before.before in
-    (sym (rewritable (k u)) ∙ u.before.before.if1.false, (held u).scored)
+    (sym (rewritable (k u)) ∙ u.before.before.if-code-ne0.false, (held u).scored)
 
 -- the score that is written is the step's
-module _ (c : tie.After-update-score) where
-  abbrev i : tie.Else2
+module _ (c : tie.After-update_score-score) where
+  abbrev i : tie.Else-rejection-ne0
   i = c.before.before.before.before
 
-  abbrev u : tie.After-update
+  abbrev u : tie.After-update-u
   u = i.before
 
   accepts : step_code (decoded (d (k u))) (y (k u)) ≡ 0
-  accepts = sym (code_is u) ∙ i.if2.left
+  accepts = sym (code_is u) ∙ i.if-rejection-ne0.left
 
-  residual-is : to_z w64 (of_z w64 u.update.result.residual) ≡ residual_of (decoded (d (k u))) (y (k u))
+  residual-is : to_z w64 (of_z w64 u.update-u.result.residual) ≡ residual_of (decoded (d (k u))) (y (k u))
   residual-is =
-      back w64 u.update.result.residual c.before.before.before.struct_told.given.1.1.1.1.0.1
+      back w64 u.update-u.result.residual c.before.before.before.struct_told-1.given.1.1.1.1.0.1
       ∙ ap (λ (v : Update). v.residual) (update-is u)
       ∙ (direct (decoded (d (k u))) (held u).passes (y (k u)) accepts).residual
 
-  score-is : c.update-score.result ≡ score_after (decoded (d (k u))).score (square_at (decoded (d (k u))) (y (k u)))
+  score-is : c.update_score-score.result ≡ score_after (decoded (d (k u))).score (square_at (decoded (d (k u))) (y (k u)))
   score-is =
-      c.update-score.ensures
-      ∙ same _ _ _ _ _ _ _ _ (held u).even (ap (λ (n : Numbers). n.count) (held u).numbers) (c.before.score-value.ensures ∙ score-value (d (k u)) (rewrite-facts (d (k u)) _ (rewritable (k u)) u.before.before.if1.left).0) residual-is
+      c.update_score-score.ensures
+      ∙ same _ _ _ _ _ _ _ _ (held u).even (ap (λ (n : Numbers). n.count) (held u).numbers) (c.before.score_value.ensures ∙ score-value (d (k u)) (rewrite-facts (d (k u)) _ (rewritable (k u)) u.before.before.if-code-ne0.left).0) residual-is
       ∙ update-score-is (decoded (d (k u))) (y (k u)) accepts
     where
       same : (x x' : Bool) (n n' : ℕ) (s s' : Score) (e e' : ℤ) → x ≡ x' → n ≡ n' → s ≡ s' → e ≡ e' → update_score x n s e ≡ update_score x' n' s' e'
@@ -119,7 +119,7 @@ store-requires c κs =
       rw (count-is (d (k v)) _ h _ r.upgrade.ensures) (direct (decoded (d (k v))) h.passes (y (k v)) (accepts q)).count,
     )
 
-returns-3 : tie.Need-returns-3
+returns-3 : tie.Need-returns
 unfolding in_place_step_code in_place_step_bytes in_place_residual
 returns-3 c =
     let w = c.before.before in

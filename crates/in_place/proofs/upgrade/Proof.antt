@@ -3,7 +3,7 @@ use mathlib.Core.Path.{◌≡◌, sym, ap, ◌∙◌}
 use mathlib.Core.List.{List}
 use Prim.Native.Nat.{ℕ}
 use lib.ListN.{length}
-use borrow.Author.Tests.{not-false}
+
 use Rattle.state.specs.declared.State.{State}
 use Rattle.state.proofs.Passing.{bounded}
 use Rattle.state.proofs.Tests.{then-zero}
@@ -33,27 +33,32 @@ module _ (s : tie.Start) where
   fills = rewrite-length d opens.0 opens.1
 
 -- what was read is the state that it holds
-state-is : (c : tie.After-state-value) → c.state-value.result ≡ decoded (d c.before.before.before.before.before)
+state-is : (c : tie.After-state_value) → c.state_value.result ≡ decoded (d c.before.before.before.before.before)
 state-is c =
     let s = c.before.before.before.before.before in
-    c.state-value.ensures ∙ state-value (d s) (opens s).0
+    c.state_value.ensures ∙ state-value (d s) (opens s).0
 
-returns : tie.Need-returns
+returns : tie.Need-returns-then-not-scored
 returns c =
     let w = c.before.before in
     let r = w.before in
     let s = r.before.before.before.before.before in
     let b = bounded (decoded (d s)) (accepted-passes (d s) (one-snapshot (d s) (opens s).0).0) in
-    w.rewrite-snapshot.ensures
+    w.rewrite_snapshot.ensures
     ∙ ap (λ (x : State). snapshot_written x (d s)) (state-is r)
     ∙ snapshot-written (decoded (d s)) (d s) b.period (fills s)
 
-returns-2 : tie.Need-returns-2
+returns-2 : tie.Need-returns-else-not-scored
 returns-2 c =
     let s = c.before.before in
-    sym (whole (d s) c.before.slice-known.given (opens s).0 (sym s.requires.1 ∙ not-false _ c.if1.false))
+    sym (whole (d s) c.before.slice_known-1.given (opens s).0 (sym s.requires.1 ∙ c.if-not-scored.false))
 
-pub upgrade-spec : {M : Type 1} → statement M
-upgrade-spec =
+pub upgrade_spec : {M : Type 1} → statement M
+upgrade_spec =
     tie.close
-    (tie.spec (λ c κs. search rules) (λ c κs. search rules) (λ c. search rules) returns returns-2)
+    (tie.spec
+    (λ c κs. search rules)
+    (λ c κs. search rules)
+    (λ c. search rules)
+    returns
+    returns-2)

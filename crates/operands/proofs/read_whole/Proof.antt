@@ -11,61 +11,61 @@ use borrow.Author.Rules.{rules}
 use Rattle.operands.proofs.read_whole.Statement.{statement}
 use Rattle.operands.proofs.read_whole.Tie as tie
 
-abbrev invariant-loop : tie.invariant-loop
+abbrev invariant-loop : tie.invariant-loop-i
 invariant-loop s at k v₀ i₀ v i = (i ≤ k) × (v < 256 ^ i) × (v ≡ unsigned_at s (at + (k - i)) i)
 
-abbrev decreases-loop : tie.decreases-loop
+abbrev decreases-loop : tie.decreases-loop-i
 decreases-loop s at k v₀ i₀ v i = k - i
 
 -- what is read so far has at most seven bytes
-small : (c : tie.After-wide invariant-loop decreases-loop) → c.before.before.before.loop.v < 256 ^ 7
+small : (c : tie.After-wide-b invariant-loop decreases-loop) → c.before.before.before.loop-i.v < 256 ^ 7
 small c =
-    let h : c.before.before.before.loop.i ≤ 7 = omega arith in
-    lt_of_lt_of_le c.before.before.before.loop.invariant.1 (pow-le-pow_right (lit< tt) h)
+    let h : c.before.before.before.loop-i.i ≤ 7 = omega arith in
+    lt_of_lt_of_le c.before.before.before.loop-i.invariant.1 (pow-le-pow_right (lit< tt) h)
 
-loop-holds : tie.Need-loop-init invariant-loop decreases-loop
+loop-holds : tie.Need-loop-i-init invariant-loop decreases-loop
 unfolding from_bytes
 loop-holds c = (zero-le, lit< tt, refl)
 
-add-i : tie.Need-overflow-add-i invariant-loop decreases-loop
+add-i : tie.Need-overflow_add-i invariant-loop decreases-loop
 add-i c = omega arith
 
-sub_wide : tie.Need-overflow-sub-wide invariant-loop decreases-loop
+sub_wide : tie.Need-overflow_sub-k invariant-loop decreases-loop
 sub_wide c = omega arith
 
-add_wide : tie.Need-overflow-add-wide invariant-loop decreases-loop
+add_wide : tie.Need-overflow_add-at invariant-loop decreases-loop
 add_wide c = omega arith
 
-shared-slice-read-wide : tie.Need-shared-slice-read-wide invariant-loop decreases-loop
+shared-slice-read-wide : tie.Need-bounds-s-at invariant-loop decreases-loop
 shared-slice-read-wide c = omega arith
 
-mul-v : tie.Need-overflow-mul-v invariant-loop decreases-loop
+mul-v : tie.Need-overflow_mul-v invariant-loop decreases-loop
 mul-v c = omega (arith, small c)
 
-add-v : tie.Need-overflow-add-v invariant-loop decreases-loop
-add-v c = omega (arith, small c, c.wide.ensures.1)
+add-v : tie.Need-overflow_add-v invariant-loop decreases-loop
+add-v c = omega (arith, small c, c.wide-b.ensures.small)
 
-loop-less : tie.Need-loop-smaller invariant-loop decreases-loop
+loop-less : tie.Need-loop-i-smaller invariant-loop decreases-loop
 loop-less c = omega arith
 
-loop-again : tie.Need-loop-preserved invariant-loop decreases-loop
+loop-again : tie.Need-loop-i-preserved invariant-loop decreases-loop
 loop-again c =
-    let l = c.before.before.before.loop in
+    let l = c.before.before.before.loop-i in
     let a = c.before.before.before.before.before.args in
     let p : 256 ^ (l.i + 1) ≡ 256 ^ l.i * 256 = rw (add-one l.i) (pow-suc 256 l.i) in (
       omega arith,
-      omega (arith, c.wide.ensures.1, p),
-      ap₂ (λ (n b : ℕ). n * 256 + b) l.invariant.2 c.wide.ensures.0
-          ∙ from_bytes-more a.s.now a.at a.k l.i c.before.before.loop-test.true c.before.before.before.before.before.requires.1,
+      omega (arith, c.wide-b.ensures.small, p),
+      ap₂ (λ (n b : ℕ). n * 256 + b) l.invariant.2 c.wide-b.ensures.value
+          ∙ from_bytes-more a.s.now a.at a.k l.i c.before.before.loop-i-test.true c.before.before.before.before.before.requires.1,
     )
 
 returns : tie.Need-returns invariant-loop decreases-loop
 returns c =
-    let e : c.before.loop.i ≡ c.before.before.before.args.k = omega arith in
-    (rw (e, sub_self, add-zero) at c.before.loop.invariant.2, rw e at c.before.loop.invariant.1)
+    let e : c.before.loop-i.i ≡ c.before.before.before.args.k = omega arith in
+    (rw (e, sub_self, add-zero) at c.before.loop-i.invariant.2, rw e at c.before.loop-i.invariant.1)
 
-pub read-whole-spec : {M : Type 1} → statement M
-read-whole-spec =
+pub read_whole_spec : {M : Type 1} → statement M
+read_whole_spec =
     tie.close
     (tie.spec
     invariant-loop

@@ -43,7 +43,7 @@ module _ (c : tie.After-forecasts) where
   means = c.forecasts.new.1.1.0
 
   means_is : means ≡ forecast_list st.args.s h ++ drop h (replicate 512 (pos 0))
-  means_is = forecasts-filled st.args.s h (replicate 512 (pos 0)) ready st.pre.2 c.forecasts.ensures.1
+  means_is = forecasts-filled st.args.s h (replicate 512 (pos 0)) ready st.pre.2 c.forecasts.ensures.buffer
 
 -- ---- the coefficients
 module _ (c : tie.After-coefficients) where
@@ -54,7 +54,7 @@ module _ (c : tie.After-coefficients) where
   cs = c.coefficients.new.1.1.0
 
   cs-is : cs ≡ coefficient_list (st first).args.s (h first) ++ drop (h first) (replicate 512 0)
-  cs-is = coefficients-filled (st first).args.s (h first) (replicate 512 0) (ready first) (st first).pre.2 c.coefficients.ensures.1
+  cs-is = coefficients-filled (st first).args.s (h first) (replicate 512 0) (ready first) (st first).pre.2 c.coefficients.ensures.buffer
 
 squares-requires : tie.Need-squares-requires
 squares-requires c κs =
@@ -62,14 +62,14 @@ squares-requires c κs =
     let s = st (first k) in
     (s.pre.2, s.pre.2, coefficients-small s.args.s (facts (first k)) s.args.h s.pre.2 (cs k) _ (cs-is k))
 
-fill-requires : tie.Need-fill-requires
+fill-requires : tie.Need-fill-sound-requires
 fill-requires c κs =
     let f = first c.before.before.before.before.before.before.before in
     let s = st f in
     (s.pre.1, s.pre.2, s.pre.2, means-small s.args.s (facts f) s.args.h s.pre.2 (means f) _ (means_is f))
 
 -- ---- the θ
-module _ (c : tie.After-fill) where
+module _ (c : tie.After-fill-sound) where
   abbrev seconds : tie.After-coefficients
   seconds = c.before.before.before.before.before.before.before.before
 
@@ -86,7 +86,7 @@ module _ (c : tie.After-fill) where
   c2 = c.before.before.before.before.squares.new.1.1.0
 
   abbrev own : List Float
-  own = c.fill.new.1.1.1.1.0
+  own = c.fill-sound.new.1.1.1.1.0
 
   same-means : (k : ℕ) → 1 ≤ k → k ≤ h f → means_in (means f) k ≡ squared_mean s k
   same-means = means-are s (facts f) (h f) (st f).pre.2 (means f) _ (means_is f)
@@ -99,12 +99,12 @@ module _ (c : tie.After-fill) where
 
   owns : own ≡ θs ++ drop (h f) (replicate 512 nought)
   owns =
-      c.fill.ensures.1
+      c.fill-sound.ensures.own
       ∙ ap (λ (l : List Float). l ++ drop (h f) (replicate 512 nought))
       (thetas-same (squares_in c2) (squared_coefficient s) (h f) same-squares (means_in (means f)) (squared_mean s) σ² same-means (h f) (omega arith))
 
-  sound-is : c.fill.result ≡ thetas_finite (squared_mean s) (squared_coefficient s) σ² (h f)
-  sound-is = c.fill.ensures.0 ∙ finite-same (squares_in c2) (squared_coefficient s) (h f) same-squares (means_in (means f)) (squared_mean s) σ² same-means (h f) (omega arith)
+  sound-is : c.fill-sound.result ≡ thetas_finite (squared_mean s) (squared_coefficient s) σ² (h f)
+  sound-is = c.fill-sound.ensures.answer ∙ finite-same (squares_in c2) (squared_coefficient s) (h f) same-squares (means_in (means f)) (squared_mean s) σ² same-means (h f) (omega arith)
 
   long : length θs ≡ h f
   long = thetas-length (squared_mean s) (squared_coefficient s) σ² (h f)
@@ -119,28 +119,28 @@ module _ (c : tie.After-fill) where
   last-is = own-last θs own _ (h f) long owns (st f).pre.1
 
 -- the last forecast, as the machine reads it
-last-mean : (c : tie.After-spread-arg) → let g = f c.before in let m = get_or (means g) (h g - 1) (pos 0) in to_z w64 (of_z w64 m) ≡ m
-last-mean c = to_z-of_z w64 (get_or (means (f c.before)) (h (f c.before) - 1) (pos 0)) (record { sfits = c.spread-arg.given })
+last-mean : (c : tie.After-spread-arg-1) → let g = f c.before in let m = get_or (means g) (h g - 1) (pos 0) in to_z w64 (of_z w64 m) ≡ m
+last-mean c = to_z-of_z w64 (get_or (means (f c.before)) (h (f c.before) - 1) (pos 0)) (record { sfits = c.spread-arg-1.given })
 
-spread-requires : tie.Need-spread-requires
+spread-requires : tie.Need-spread-v-requires
 spread-requires c κs =
     let g = f c.before in
     rw (last-mean c) (means-small (st g).args.s (facts g) (h g) (st g).pre.2 (means g) _ (means_is g) (h g - 1) (omega (arith, (st g).pre.1)))
 
 -- ---- the answer
-module _ (c : tie.After-is-finite) where
-  abbrev filled : tie.After-fill
+module _ (c : tie.After-is_finite) where
+  abbrev filled : tie.After-fill-sound
   filled = c.before.before.before
 
-  value : c.before.spread.result ≡ variance_of (squared_mean (s filled)) (squared_coefficient (s filled)) (σ² filled) (h (f filled))
+  value : c.before.spread-v.result ≡ variance_of (squared_mean (s filled)) (squared_coefficient (s filled)) (σ² filled) (h (f filled))
   unfolding variance_of
   value =
       let g = f filled in
       let m = ap squared (last-mean c.before.before) ∙ same-means filled (h g) (st g).pre.1 (omega arith) in
-      c.before.spread.ensures
+      c.before.spread-v.ensures
       ∙ ap₂ (λ (x y : Float). sub binary64 (mul binary64 (add binary64 one (σ² filled)) x) y) (last-is filled) m
 
-  code : (b : Bool) → (filled.fill.result && c.is_finite.result) ≡ b → computed_code (s filled) (h (f filled)) (σ² filled) ≡ cond b 0 19
+  code : (b : Bool) → (filled.fill-sound.result && c.is_finite.result) ≡ b → computed_code (s filled) (h (f filled)) (σ² filled) ≡ cond b 0 19
   unfolding computed_code all_finite
   code b e = rw (← (sound-is filled), ← value, ← c.is_finite.ensures, e)
 
@@ -150,22 +150,22 @@ copy-requires c κs =
     let g = st (f k) in
     (g.pre.2, g.pre.3, enough k)
 
-returns : tie.Need-returns
+returns : tie.Need-returns-then-sound-is_finite
 unfolding computed_variance computed_cells
 returns c =
     let copied = c.before.before in
     let a = copied.before.before.before.before in
-    let e = code a true copied.before.before.before.if1.true in
+    let e = code a true copied.before.before.before.if-sound-is_finite.true in
     (rw e (ap VarianceOf.Accepted (value a)), rw e (rw (first-are (filled a)) at copied.copy.ensures))
 
-returns-2 : tie.Need-returns-2
+returns-2 : tie.Need-returns-else-sound-is_finite
 unfolding computed_variance computed_cells
 returns-2 c =
-    let e = code c.before false c.if1.false in
+    let e = code c.before false c.if-sound-is_finite.false in
     (rw e, rw e)
 
-pub computed-spec : {M : Type 1} → statement M
-computed-spec =
+pub computed_spec : {M : Type 1} → statement M
+computed_spec =
     tie.close
     (tie.spec
     (λ c. search rules)

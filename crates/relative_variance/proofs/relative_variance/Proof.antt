@@ -9,31 +9,31 @@ use Rattle.relative_errors.proofs.Bounds.{Taken, taken}
 use Rattle.relative_variance.proofs.relative_variance.Statement.{statement}
 use Rattle.relative_variance.proofs.relative_variance.Tie as tie
 
-returns : tie.Need-returns
+returns : tie.Need-returns-then-n-ne0
 unfolding relative_variance relative_cells relative_code
 returns c =
-    let e = c.before.input-code.ensures in
-    let n = ne_eqb c.before.input-code.result 0 c.if1.true in
+    let e = c.before.input_code-n.ensures in
+    let n = ne_eqb c.before.input_code-n.result 0 c.if-n-ne0.true in
     (rw (← e, n, n), rw (← e, n, n))
 
-taken_is : (c : tie.Else1) → let s = c.before.before.before in Taken s.args.s s.args.h s.args.sigma2 (length s.args.thetas.now)
-taken_is c = taken _ _ _ _ (sym c.before.input-code.ensures ∙ c.if1.false)
+taken_is : (c : tie.Else-n-ne0) → let s = c.before.before.before in Taken s.args.s s.args.h s.args.sigma2 (length s.args.thetas.now)
+taken_is c = taken _ _ _ _ (sym c.before.input_code-n.ensures ∙ c.if-n-ne0.false)
 
 computed-requires : tie.Need-computed-requires
 computed-requires c κs =
     let t = taken_is c.before in
     (t.ready.valid, t.ready.least, t.ready.most, t.fits)
 
-returns-2 : tie.Need-returns-2
+returns-2 : tie.Need-returns
 unfolding relative_variance relative_cells relative_code computed_variance computed_cells computed_code
 returns-2 c =
     let call = c.before.before in
     let b = call.before.before in
-    let z = sym b.before.input-code.ensures ∙ b.if1.false in
-    (rw z call.computed.ensures.0, rw z call.computed.ensures.1)
+    let z = sym b.before.input_code-n.ensures ∙ b.if-n-ne0.false in
+    (rw z call.computed.ensures.answer, rw z call.computed.ensures.cells)
 
-pub relative-variance-spec : {M : Type 1} → statement M
-relative-variance-spec =
+pub relative_variance_spec : {M : Type 1} → statement M
+relative_variance_spec =
     tie.close
     (tie.spec
     (λ c κs. search rules)

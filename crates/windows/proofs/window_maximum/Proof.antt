@@ -3,7 +3,7 @@ use mathlib.Core.Path.{◌≡◌, sym, ap, ◌∙◌}
 use mathlib.Core.Bool.{Bool, true, false}
 use mathlib.Core.List.{append-nil}
 use borrow.Author.Rules.{rules}
-use borrow.Author.Tests.{ne_eqb, not-true, not-false}
+use borrow.Author.Tests.{ne_eqb}
 use Rattle.calendars.specs.Calendars.{Calendar, calendar_of}
 use Rattle.state.specs.Rejections.{unless, ◌then◌, outcome_code, bad_calendar}
 use Rattle.state.specs.States.{check}
@@ -28,63 +28,63 @@ window-code : (k : Calendar) (s : State) (start end : ℕ) → window_code k s s
 unfolding window_code
 window-code k s start end = sym (then-assoc (check s) (calendar_code s.period k) _)
 
-module _ (c : tie.After-code-of) where
+module _ (c : tie.After-code_of-code) where
   abbrev s : tie.Start
   s = c.before.before.before.before.before.before
 
   abbrev k : Calendar
   k = calendar_of s.args.skipped.now s.args.repeated.now
 
-  code_is : c.code_of.result ≡ (check s.args.s then calendar_code s.args.s.period k)
+  code_is : c.code_of-code.result ≡ (check s.args.s then calendar_code s.args.s.period k)
   unfolding forecasts_on
   code_is =
-      c.code_of.ensures ∙ ap outcome_code c.before.before.forecasts-on.ensures.0 ∙ outcome-code (forecasts_code_on k s.args.s 24 24) ∙ day-code k s.args.s
+      c.code_of-code.ensures ∙ ap outcome_code c.before.before.forecasts_on-done.ensures.answer ∙ outcome-code (forecasts_code_on k s.args.s 24 24) ∙ day-code k s.args.s
 
-returns : tie.Need-returns
+returns : tie.Need-returns-then-code-ne0
 unfolding window_maximum
 returns c =
     let q = c.before in
     let t = (s q).args in
-    let n = q.code_of.result in
-    let e = window-code (k q) t.s t.first t.end ∙ ap (λ (m : ℕ). m then unless (window_ok t.first t.end) bad_calendar then unless (is_some (inside (k q) t.s t.first t.end)) bad_calendar) (sym (code_is q)) ∙ then-first n _ c.if1.true in
-    rw (e, ne_eqb n 0 c.if1.true)
+    let n = q.code_of-code.result in
+    let e = window-code (k q) t.s t.first t.end ∙ ap (λ (m : ℕ). m then unless (window_ok t.first t.end) bad_calendar then unless (is_some (inside (k q) t.s t.first t.end)) bad_calendar) (sym (code_is q)) ∙ then-first n _ c.if-code-ne0.true in
+    rw (e, ne_eqb n 0 c.if-code-ne0.true)
 
 -- nothing but the window rejects it
-module _ (c : tie.After-window-ok) where
-  abbrev q : tie.After-code-of
+module _ (c : tie.After-window_ok) where
+  abbrev q : tie.After-code_of-code
   q = c.before.before
 
   abbrev t : tie.Start
   t = s q
 
   passes : (check t.args.s then calendar_code t.args.s.period (k q)) ≡ 0
-  passes = sym (code_is q) ∙ c.before.if1.false
+  passes = sym (code_is q) ∙ c.before.if-code-ne0.false
 
-  window : (b : Bool) → c.window-ok.result ≡ b → window_code (k q) t.args.s t.args.first t.args.end ≡ (unless b bad_calendar then unless (is_some (inside (k q) t.args.s t.args.first t.args.end)) bad_calendar)
-  window b e = window-code (k q) t.args.s t.args.first t.args.end ∙ rw (passes, sym c.window-ok.ensures ∙ e)
+  window : (b : Bool) → c.window_ok.result ≡ b → window_code (k q) t.args.s t.args.first t.args.end ≡ (unless b bad_calendar then unless (is_some (inside (k q) t.args.s t.args.first t.args.end)) bad_calendar)
+  window b e = window-code (k q) t.args.s t.args.first t.args.end ∙ rw (passes, sym c.window_ok.ensures ∙ e)
 
-  cells : q.before.before.forecasts-on.last.1.1.1.1.0 ≡ forecast_list_by (k q) t.args.s 24
+  cells : q.before.before.forecasts_on-done.last.1.1.1.1.0 ≡ forecast_list_by (k q) t.args.s 24
   unfolding forecast_cells_on
-  cells = q.before.before.forecasts-on.ensures.1 ∙ rw (day-code (k q) t.args.s ∙ passes) (append-nil (forecast_list_by (k q) t.args.s 24))
+  cells = q.before.before.forecasts_on-done.ensures.buffer ∙ rw (day-code (k q) t.args.s ∙ passes) (append-nil (forecast_list_by (k q) t.args.s 24))
 
-returns-2 : tie.Need-returns-2
+returns-2 : tie.Need-returns-then-not-window_ok
 unfolding window_maximum
-returns-2 c = rw (window c.before false (not-true _ c.if2.true))
+returns-2 c = rw (window c.before false c.if-not-window_ok.true)
 
-largest-inside-requires : tie.Need-largest-inside-requires
+largest-inside-requires : tie.Need-largest_inside-requires
 largest-inside-requires c κs =
     let w = c.before.before in
     let z = then-zero _ _ (passes w) in
     (z.0, walkable _ _ (followed _ _ z.1), cells w)
 
-returns-3 : tie.Need-returns-3
+returns-3 : tie.Need-returns
 unfolding window_maximum
 returns-3 c =
     let w = c.before.before.before in
-    rw (window w true (not-false _ c.before.before.if2.false)) c.largest-inside.ensures
+    rw (window w true c.before.before.if-not-window_ok.false) c.largest_inside.ensures
 
-pub window-maximum-spec : {M : Type 1} → statement M
-window-maximum-spec =
+pub window_maximum_spec : {M : Type 1} → statement M
+window_maximum_spec =
     tie.close
     (tie.spec
     (λ c. search rules)

@@ -11,13 +11,13 @@ use mathlib.Core.Path.{◌≡◌, ap, ◌∙◌}
 use Rattle.commands.proofs.performing.open.Statement.{statement}
 use Rattle.commands.proofs.performing.open.Tie as tie
 
-opens : (r : tie.After-open-snapshot) → let a = r.before.before.before.args in let o = r.open-snapshot.result in
+opens : (r : tie.After-open_snapshot-found) → let a = r.before.before.before.args in let o = r.open_snapshot-found.result in
     (a.x.at + o.size ≤ length a.s.now) × (settled a.x.at a.x.active (a.x.at + o.size) (a.x.at + o.size) o.action ≡ open_snapshot a.s.now a.x)
 opens r =
     let a = r.before.before.before.args in
-    opened _ _ _ r.before.before.before.requires (r.open-snapshot.ensures ∙ ap (opening a.x.state) (rest a.s.now a.x.at))
+    opened _ _ _ r.before.before.before.requires (r.open_snapshot-found.ensures ∙ ap (opening a.x.state) (rest a.s.now a.x.at))
 
-add-next : tie.Need-overflow-add-next
+add-next : tie.Need-overflow_add-next
 add-next c = omega (arith, (opens c.before).0)
 
 returns : tie.Need-returns

@@ -8,7 +8,7 @@ use mir.Syntax.{w64}
 use mir.Val.{SFits, to_z, of_z}
 use mir.ValLaws.{to_z-of_z}
 use borrow.Author.Rules.{rules}
-use borrow.Author.Tests.{ne_eqb, not-true, not-false}
+use borrow.Author.Tests.{ne_eqb, not-false}
 use Rattle.integers.proofs.Difference.{back}
 use Rattle.integers.proofs.Bounds.{within-add, within-fits, within-back}
 use Rattle.calendars.specs.Calendars.{Calendar, calendar_of}
@@ -24,12 +24,12 @@ use Rattle.forecasts.proofs.ForecastLaws.{Ready, forecast-ready}
 use Rattle.forecasting.proofs.changes.forecast_on.Statement.{statement}
 use Rattle.forecasting.proofs.changes.forecast_on.Tie as tie
 
-returns : tie.Need-returns
+returns : tie.Need-returns-then-n-ne0
 unfolding forecast_on forecast_code_on
-returns c = let e = ne_eqb _ 0 c.if1.true in rw (← c.before.forecast-code.ensures, e, e)
+returns c = let e = ne_eqb _ 0 c.if-n-ne0.true in rw (← c.before.forecast_code-n.ensures, e, e)
 
 -- a horizon from a state that passes; the lists decide
-module _ (c : tie.After-calendar-ok) where
+module _ (c : tie.After-calendar_ok) where
   abbrev s : tie.Start
   s = c.before.before.before.before.before
 
@@ -37,23 +37,23 @@ module _ (c : tie.After-calendar-ok) where
   k = calendar_of s.args.skipped.now s.args.repeated.now
 
   accepted : forecast_code s.args.t1 s.args.h ≡ 0
-  accepted = sym c.before.before.forecast-code.ensures ∙ c.before.if1.false
+  accepted = sym c.before.before.forecast_code-n.ensures ∙ c.before.if-n-ne0.false
 
   ready : Ready 512 s.args.t1 s.args.h
   ready = forecast-ready 512 s.args.t1 s.args.h accepted
 
-  lists : (b : Bool) → c.calendar-ok.result ≡ b → calendar_code s.args.t1.period k ≡ unless b bad_calendar
-  lists b = lists-code s.args.t1.period k c.calendar-ok.result b c.calendar-ok.ensures
+  lists : (b : Bool) → c.calendar_ok.result ≡ b → calendar_code s.args.t1.period k ≡ unless b bad_calendar
+  lists b = lists-code s.args.t1.period k c.calendar_ok.result b c.calendar_ok.ensures
 
-  code : (b : Bool) → c.calendar-ok.result ≡ b → forecast_code_on k s.args.t1 s.args.h ≡ unless b bad_calendar
+  code : (b : Bool) → c.calendar_ok.result ≡ b → forecast_code_on k s.args.t1 s.args.h ≡ unless b bad_calendar
   unfolding forecast_code_on
   code b e = rw (accepted, lists b e)
 
-returns-2 : tie.Need-returns-2
+returns-2 : tie.Need-returns-then-not-calendar_ok
 unfolding forecast_on
-returns-2 c = rw (code c.before false (not-true _ c.if2.true))
+returns-2 c = rw (code c.before false c.if-not-calendar_ok.true)
 
-module _ (c : tie.Else2) where
+module _ (c : tie.Else-not-calendar_ok) where
   abbrev entry : tie.Start
   entry = s c.before
 
@@ -61,14 +61,14 @@ module _ (c : tie.Else2) where
   state-facts = bounded entry.args.t1 (ready c.before).valid
 
   walks : Walkable (k c.before) entry.args.t1.period
-  walks = walkable _ _ (followed _ _ (lists c.before true (not-false _ c.if2.false)))
+  walks = walkable _ _ (followed _ _ (lists c.before true c.if-not-calendar_ok.false))
 
-place-at-requires : tie.Need-place-at-requires
+place-at-requires : tie.Need-place_at-k-requires
 place-at-requires c κs = ((ready c.before).valid, walks c, (ready c.before).most)
 
 -- the sum is the forecast
-module _ (c : tie.After-struct-told2) where
-  abbrev q : tie.Else2
+module _ (c : tie.After-struct_told-2-1) where
+  abbrev q : tie.Else-not-calendar_ok
   q = c.before.before.before.before.before
 
   level_is : to_z w64 (of_z w64 (entry q).args.t1.level) ≡ (entry q).args.t1.level
@@ -77,7 +77,7 @@ module _ (c : tie.After-struct-told2) where
   trend_is : to_z w64 (of_z w64 (entry q).args.t1.trend) ≡ (entry q).args.t1.trend
   trend_is = within-back w64 (state-facts q).trend (omega arith)
 
-trend-line-requires : tie.Need-trend-line-requires
+trend-line-requires : tie.Need-trend_line-requires
 trend-line-requires c κs =
     let b = state-facts (q c) in
     rw (level_is c, trend_is c) (b.phi, b.level, b.trend, (ready (q c).before).most)
@@ -85,40 +85,40 @@ trend-line-requires c κs =
 same_line : (x x' : Bool) (l l' b b' : ℤ) (F h : ℕ) → x ≡ x' → l ≡ l' → b ≡ b' → trend_line x l F b h ≡ trend_line x' l' F b' h
 same_line x x' l l' b b' F h ex el eb = rw (ex, el, eb)
 
-module _ (c : tie.After-trend-line) where
-  abbrev at : tie.Else2
+module _ (c : tie.After-trend_line) where
+  abbrev at : tie.Else-not-calendar_ok
   at = q c.before
 
-  abbrev placed : tie.After-place-at
+  abbrev placed : tie.After-place_at-k
   placed = c.before.before.before.before.before
 
   abbrev season : ℤ
-  season = get_or (entry at).args.t1.seasonal placed.place_at.result (pos 0)
+  season = get_or (entry at).args.t1.seasonal placed.place_at-k.result (pos 0)
 
   season-is : to_z w64 (of_z w64 season) ≡ season
-  season-is = within-back w64 ((state-facts at).cells _ placed.place_at.ensures.1) (omega arith)
+  season-is = within-back w64 ((state-facts at).cells _ placed.place_at-k.ensures.bound) (omega arith)
 
-  line-is : to_z w64 (of_z w64 c.trend-line.result) ≡ c.trend-line.result
-  line-is = back w64 c.trend-line.result c.trend-line.type-inv
+  line-is : to_z w64 (of_z w64 c.trend_line.result) ≡ c.trend_line.result
+  line-is = back w64 c.trend_line.result c.trend_line.type_inv
 
-  sum_fits : SFits w64 (c.trend-line.result +ℤ season)
-  sum_fits = within-fits w64 (within-add c.trend-line.ensures.1 ((state-facts at).cells _ placed.place_at.ensures.1)) (omega arith)
+  sum_fits : SFits w64 (c.trend_line.result +ℤ season)
+  sum_fits = within-fits w64 (within-add c.trend_line.ensures.bound ((state-facts at).cells _ placed.place_at-k.ensures.bound)) (omega arith)
 
-  value-is : c.trend-line.result +ℤ season ≡ forecast_by (k at.before) (entry at).args.t1 (entry at).args.h
+  value-is : c.trend_line.result +ℤ season ≡ forecast_by (k at.before) (entry at).args.t1 (entry at).args.h
   unfolding forecast_by
   value-is =
-      ap₂ (λ (x y : ℤ). x +ℤ y) (c.trend-line.ensures.0 ∙ same_line _ _ _ _ _ _ _ _ c.before.before.before.ties-to-even.ensures (level_is c.before) (trend_is c.before))
-      (ap (λ (p : ℕ). get_or (entry at).args.t1.seasonal p (pos 0)) placed.place_at.ensures.0)
+      ap₂ (λ (x y : ℤ). x +ℤ y) (c.trend_line.ensures.value ∙ same_line _ _ _ _ _ _ _ _ c.before.before.before.ties_to_even.ensures (level_is c.before) (trend_is c.before))
+      (ap (λ (p : ℕ). get_or (entry at).args.t1.seasonal p (pos 0)) placed.place_at-k.ensures.value)
 
-add-t20 : tie.Need-overflow-add-t20
+add-t20 : tie.Need-overflow_add-result
 add-t20 c = rw (line-is c, season-is c) (sum_fits c)
 
-returns-3 : tie.Need-returns-3
+returns-3 : tie.Need-returns
 unfolding forecast_on
-returns-3 c = rw (code (at c).before true (not-false _ (at c).if2.false), line-is c, season-is c, to_z-of_z w64 _ (sum_fits c), value-is c)
+returns-3 c = rw (code (at c).before true (not-false _ (at c).if-not-calendar_ok.false), line-is c, season-is c, to_z-of_z w64 _ (sum_fits c), value-is c)
 
-pub forecast-on-spec : {M : Type 1} → statement M
-forecast-on-spec =
+pub forecast_on_spec : {M : Type 1} → statement M
+forecast_on_spec =
     tie.close
     (tie.spec
     (λ c κs. search rules)

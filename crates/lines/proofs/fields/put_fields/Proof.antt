@@ -11,46 +11,46 @@ use native.Mathlib.Omega.{arith}
 use Rattle.lines.proofs.fields.put_fields.Statement.{statement}
 use Rattle.lines.proofs.fields.put_fields.Tie as tie
 
-returns : tie.Need-returns
+returns : tie.Need-returns-then-f-eq-NO_LETTER
 returns c =
     let a = c.before.before.before.before.args in
-    rw (none a.saved.now a.f (eq-eqb _ _ c.if1.true))
+    rw (none a.saved.now a.f (eq-eqb _ _ c.if-f-eq-NO_LETTER.true))
 
 -- with a letter, the line's length is that of its parts
-size : (i : tie.Else1) → let a = i.before.before.before.before.args in length (fields_bytes a.saved.now a.f) ≡ 2 + length (number_bytes a.saved.now a.f.first) + length (number_bytes a.saved.now a.f.second) + length (number_bytes a.saved.now a.f.third)
+size : (i : tie.Else-f-eq-NO_LETTER) → let a = i.before.before.before.before.args in length (fields_bytes a.saved.now a.f) ≡ 2 + length (number_bytes a.saved.now a.f.first) + length (number_bytes a.saved.now a.f.second) + length (number_bytes a.saved.now a.f.third)
 size i =
     let a = i.before.before.before.before.args in
-    length_fields a.saved.now a.f (ne_eqb _ _ i.if1.false)
+    length_fields a.saved.now a.f (ne_eqb _ _ i.if-f-eq-NO_LETTER.false)
 
-put-byte-requires : tie.Need-put-byte-requires
+put-byte-requires : tie.Need-put_byte-at-requires
 put-byte-requires c κs = omega (arith, size c.before)
 
-put-number-requires : tie.Need-put-number-requires
+put-number-requires : tie.Need-put_number-at-requires
 put-number-requires c κs = omega (arith, size c.before.before.before.before.before)
 
-put-number-requires-2 : tie.Need-put-number-requires-2
+put-number-requires-2 : tie.Need-put_number-at-requires-2
 put-number-requires-2 c κs = omega (arith, size c.before.before.before.before.before.before.before.before.before)
 
-put-number-requires-3 : tie.Need-put-number-requires-3
+put-number-requires-3 : tie.Need-put_number-at-requires-3
 put-number-requires-3 c κs =
     omega (arith, size c.before.before.before.before.before.before.before.before.before.before.before.before.before)
 
-put-byte-requires-2 : tie.Need-put-byte-requires-2
+put-byte-requires-2 : tie.Need-put_byte-requires
 put-byte-requires-2 c κs =
     omega (arith, size c.before.before.before.before.before.before.before.before.before.before.before.before.before.before.before.before.before)
 
-returns-2 : tie.Need-returns-2
+returns-2 : tie.Need-returns
 unfolding fields_bytes
 returns-2 c =
     let byte = c.before.before.before.before.before.before.before.before.before.before.before.before.before.before.before.before.before.before in
-    let letter = byte.put_byte.ensures in
-    let first = c.before.before.before.before.before.before.before.before.before.before.before.before.before.before.put-number.ensures in
-    let second = c.before.before.before.before.before.before.before.before.before.before.put-number2.ensures in
-    let third = c.before.before.before.before.before.before.put-number3.ensures in
-    rw (ne_eqb _ _ byte.before.before.if1.false) (put_then letter (put_then first (put_then second (put_then third c.before.before.put-byte2.ensures)))).stored
+    let letter = byte.put_byte-at.ensures in
+    let first = c.before.before.before.before.before.before.before.before.before.before.before.before.before.before.put_number-at.ensures in
+    let second = c.before.before.before.before.before.before.before.before.before.before.put_number-at-2.ensures in
+    let third = c.before.before.before.before.before.before.put_number-at-3.ensures in
+    rw (ne_eqb _ _ byte.before.before.if-f-eq-NO_LETTER.false) (put_then letter (put_then first (put_then second (put_then third c.before.before.put_byte.ensures)))).stored
 
-pub put-fields-spec : {M : Type 1} → statement M
-put-fields-spec =
+pub put_fields_spec : {M : Type 1} → statement M
+put_fields_spec =
     tie.close
     (tie.spec
     returns

@@ -17,23 +17,23 @@ use Rattle.relative_errors.proofs.Recursion.{squares-more}
 use Rattle.relative_variance.proofs.doubles.squares.Statement.{statement}
 use Rattle.relative_variance.proofs.doubles.squares.Tie as tie
 
-abbrev invariant-loop : tie.invariant-loop
+abbrev invariant-loop : tie.invariant-loop-i
 invariant-loop c h squared₀ i₀ squared i = (i ≤ h) × (length squared ≡ length squared₀) × (squared ≡ square_list c i ++ drop i squared₀)
 
-abbrev decreases-loop : tie.decreases-loop
+abbrev decreases-loop : tie.decreases-loop-i
 decreases-loop c h squared₀ i₀ squared i = h - i
 
-loop-holds : tie.Need-loop-init invariant-loop decreases-loop
+loop-holds : tie.Need-loop-i-init invariant-loop decreases-loop
 unfolding square_list
 loop-holds c = search rules
 
 -- a C is small, so that the cast keeps it
-module _ (c : tie.In-loop invariant-loop decreases-loop) where
+module _ (c : tie.In-loop-i invariant-loop decreases-loop) where
   abbrev C : ℕ
-  C = get_or c.before.before.args.c.now c.before.loop.i 0
+  C = get_or c.before.before.args.c.now c.before.loop-i.i 0
 
   small : C ≤ 9007199254740992
-  small = c.before.before.requires.2 c.before.loop.i (omega arith)
+  small = c.before.before.requires.2 c.before.loop-i.i (omega arith)
 
   kept : to_z w64 C ≡ pos C
   kept = to_z_pos w64 C (omega (arith, small))
@@ -41,24 +41,24 @@ module _ (c : tie.In-loop invariant-loop decreases-loop) where
 square-requires : tie.Need-square-requires invariant-loop decreases-loop
 square-requires c κs = rw (kept c.before) (small c.before)
 
-loop-again : tie.Need-loop-preserved invariant-loop decreases-loop
+loop-again : tie.Need-loop-i-preserved invariant-loop decreases-loop
 loop-again c =
     let f = c.before.before in
     let at = f.before in (
       search rules,
-      simp length-set at.loop.invariant.1,
+      simp length-set at.loop-i.invariant.1,
       rw (c.square.ensures, kept f, add-one)
-          (ap (λ (l : List Float). set l at.loop.i (squared (pos (C f)))) at.loop.invariant.2 ∙ squares-more at.before.args.c.now at.before.args.squared.now at.loop.i (omega (arith, at.before.requires.1))),
+          (ap (λ (l : List Float). set l at.loop-i.i (squared (pos (C f)))) at.loop-i.invariant.2 ∙ squares-more at.before.args.c.now at.before.args.squared.now at.loop-i.i (omega (arith, at.before.requires.1))),
     )
 
 returns : tie.Need-returns invariant-loop decreases-loop
 returns c =
     let at = c.before in
-    let n : at.loop.i ≡ at.before.args.h = omega arith in
-    rw n at at.loop.invariant.2
+    let n : at.loop-i.i ≡ at.before.args.h = omega arith in
+    rw n at at.loop-i.invariant.2
 
-pub squares-spec : {M : Type 1} → statement M
-squares-spec =
+pub squares_spec : {M : Type 1} → statement M
+squares_spec =
     tie.close
     (tie.spec
     invariant-loop

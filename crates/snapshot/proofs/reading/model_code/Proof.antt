@@ -14,52 +14,52 @@ use Rattle.snapshot.proofs.reading.model_code.Statement.{statement}
 use Rattle.snapshot.proofs.reading.model_code.Tie as tie
 
 -- the command that is due is 18 where the bytes begin with it, else 10
-due-is : (d : tie.After-due) → let s = d.before.before.before.before.args.s.now in d.due.result ≡ due_code s model_at (opener (outside_in s))
-due-is d = rw (d.before.opener.ensures, d.before.before.is-outside.ensures) at d.due.ensures
+due-is : (d : tie.After-due-due_code) → let s = d.before.before.before.before.args.s.now in d.due-due_code.result ≡ due_code s model_at (opener (outside_in s))
+due-is d = rw (d.before.opener.ensures, d.before.before.is_outside-outside.ensures) at d.due-due_code.ensures
 
 -- it is there, whole
-room : (c : tie.Else1) → model_length ≤ length c.before.before.before.before.before.args.s.now
+room : (c : tie.Else-due_code-ne0) → model_length ≤ length c.before.before.before.before.before.args.s.now
 room c =
     let s = c.before.before.before.before.before.args.s.now in
-    rw (opener-size (outside_in s)) at (due s model_at (opener (outside_in s)) (sym (due-is c.before) ∙ c.if1.false)).room
+    rw (opener-size (outside_in s)) at (due s model_at (opener (outside_in s)) (sym (due-is c.before) ∙ c.if-due_code-ne0.false)).room
 
-due-requires : tie.Need-due-requires
-due-requires c κs = rw c.opener.ensures (opener-command c.before.is-outside.result)
+due-requires : tie.Need-due-due_code-requires
+due-requires c κs = rw c.opener.ensures (opener-command c.before.is_outside-outside.result)
 
-returns : tie.Need-returns
+returns : tie.Need-returns-then-due_code-ne0
 unfolding model_code
-returns c = rw (← (due-is c.before), ne_eqb _ _ c.if1.true)
+returns c = rw (← (due-is c.before), ne_eqb _ _ c.if-due_code-ne0.true)
 
-shared-slice-read-model : tie.Need-shared-slice-read-model
+shared-slice-read-model : tie.Need-bounds-s-1
 shared-slice-read-model c = omega (arith, room c.before)
 
-shared-slice-read-period-ok : tie.Need-shared-slice-read-period-ok
+shared-slice-read-period-ok : tie.Need-bounds-s-2
 shared-slice-read-period-ok c = omega (arith, room c.before.before.before.before)
 
-parameters-at-requires : tie.Need-parameters-at-requires
+parameters-at-requires : tie.Need-parameters_at-requires
 parameters-at-requires c κs = room c.before.before.before.before.before.before.before
 
-returns-2 : tie.Need-returns-2
+returns-2 : tie.Need-returns
 unfolding model_code
 returns-2 c =
     let p = c.before.before in
     let m = p.before.before.before.before in
     let i = m.before.before.before in
-    rw (← (due-is i.before), eq-eqb _ _ i.if1.false)
+    rw (← (due-is i.before), eq-eqb _ _ i.if-due_code-ne0.false)
     (rw (
-      c.first2.ensures,
-      c.before.parameters-at.ensures,
-      i.before.before.before.is-outside.ensures,
-      p.first.ensures,
-      p.before.unless2.ensures,
-      p.before.before.period-ok.ensures,
-      m.unless.ensures,
-      m.before.model-ok.ensures,
+      c.first.ensures,
+      c.before.parameters_at.ensures,
+      i.before.before.before.is_outside-outside.ensures,
+      p.first-code.ensures,
+      p.before.unless.ensures,
+      p.before.before.period_ok.ensures,
+      m.unless-code.ensures,
+      m.before.model_ok.ensures,
     )
     (simp then-assoc))
 
-pub model-code-spec : {M : Type 1} → statement M
-model-code-spec =
+pub model_code_spec : {M : Type 1} → statement M
+model_code_spec =
     tie.close
     (tie.spec
     (λ c κs. search rules)

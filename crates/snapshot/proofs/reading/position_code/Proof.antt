@@ -15,40 +15,40 @@ use Rattle.snapshot.proofs.reading.position_code.Statement.{statement}
 use Rattle.snapshot.proofs.reading.position_code.Tie as tie
 
 -- the command is there, whole
-room : (c : tie.Else1) → c.before.before.before.args.at + position_length ≤ length c.before.before.before.args.s.now
+room : (c : tie.Else-code-ne0) → c.before.before.before.args.at + position_length ≤ length c.before.before.before.args.s.now
 unfolding command_size
-room c = (due _ _ 0x13 (sym c.before.due.ensures ∙ c.if1.false)).room
+room c = (due _ _ 0x13 (sym c.before.due-code.ensures ∙ c.if-code-ne0.false)).room
 
-due-requires : tie.Need-due-requires
+due-requires : tie.Need-due-code-requires
 unfolding is_command command_size
 due-requires c κs = refl
 
-returns : tie.Need-returns
+returns : tie.Need-returns-then-code-ne0
 unfolding position_code
 returns c =
     let p = c.before.before.before.requires in
-    rw (← p.0, ← p.2, ← c.before.due.ensures, ne_eqb _ _ c.if1.true)
+    rw (← p.0, ← p.2, ← c.before.due-code.ensures, ne_eqb _ _ c.if-code-ne0.true)
 
-add-word-at : tie.Need-overflow-add-word-at
+add-word-at : tie.Need-overflow_add-at
 add-word-at c =
     let a = c.before.before.before in
     at-fits a.args.scored a.args.m 2 a.requires.2 a.ranges.m.fits (omega arith)
 
-add-index-ok : tie.Need-overflow-add-index-ok
+add-index-ok : tie.Need-overflow_add-at-2
 add-index-ok c =
     let a = c.before.before.before.before in
     at-fits a.args.scored a.args.m 1 a.requires.2 a.ranges.m.fits (omega arith)
 
-word-at-requires : tie.Need-word-at-requires
+word-at-requires : tie.Need-word_at-count-requires
 word-at-requires c κs = omega (arith, room c)
 
-shared-slice-read-index-ok : tie.Need-shared-slice-read-index-ok
+shared-slice-read-index-ok : tie.Need-bounds-s-at
 shared-slice-read-index-ok c = omega (arith, room c.before.before)
 
-score-at-ok-requires : tie.Need-score-at-ok-requires
+score-at-ok-requires : tie.Need-score_at_ok-requires
 score-at-ok-requires c κs = let p = c.before.before.before.before.before.before.before.before.requires in (p.0, p.1)
 
-returns-2 : tie.Need-returns-2
+returns-2 : tie.Need-returns
 unfolding position_code
 returns-2 c =
     let k = c.before.before in
@@ -58,13 +58,13 @@ returns-2 c =
     let i = r.before in
     let a = i.before.before.before.args in
     let p = i.before.before.before.requires in
-    let n : count_in a.s.now a.m ≡ r.word_at.result = rw (← p.0, ← p.2) (sym r.word_at.ensures) in
-    let e : score_ok (count_in a.s.now a.m) (score_in a.s.now) ≡ k.score-at-ok.result = ap (λ (count : ℕ). score_ok count (score_in a.s.now)) n ∙ sym k.score-at-ok.ensures in
-    rw (e, ← p.0, ← p.2, ← i.before.due.ensures, eq-eqb _ _ i.if1.false)
-    (rw (← r.word_at.ensures, ← x.index_ok.ensures, ← q.before.count-ok.ensures, ← q.unless.ensures, ← c.before.unless2.ensures) c.first.ensures)
+    let n : count_in a.s.now a.m ≡ r.word_at-count.result = rw (← p.0, ← p.2) (sym r.word_at-count.ensures) in
+    let e : score_ok (count_in a.s.now a.m) (score_in a.s.now) ≡ k.score_at_ok.result = ap (λ (count : ℕ). score_ok count (score_in a.s.now)) n ∙ sym k.score_at_ok.ensures in
+    rw (e, ← p.0, ← p.2, ← i.before.due-code.ensures, eq-eqb _ _ i.if-code-ne0.false)
+    (rw (← r.word_at-count.ensures, ← x.index_ok.ensures, ← q.before.count_ok.ensures, ← q.unless-position.ensures, ← c.before.unless.ensures) c.first.ensures)
 
-pub position-code-spec : {M : Type 1} → statement M
-position-code-spec =
+pub position_code_spec : {M : Type 1} → statement M
+position_code_spec =
     tie.close
     (tie.spec
     due-requires

@@ -23,13 +23,13 @@ module _ (s : tie.Start) where
   level-within : Within 2199023255552 (s.args.n.level +ℤ share s.args.even s.args.n.phi s.args.n.trend)
   level-within = within-add s.pre.level (share-within s.args.even s.pre.phi s.pre.trend)
 
-share-requires : tie.Need-share-requires
+share-requires : tie.Need-share-damped-requires
 share-requires c κs = let p = c.before.requires in rw (trend_is c.before) (p.phi, within-le 8796093022208 (omega arith) p.trend)
 
-damped-is : (c : tie.After-share) → let a = c.before.before.args in to_z w64 (of_z w64 c.share.result) ≡ share a.even a.n.phi a.n.trend
-damped-is c = back w64 c.share.result c.share.type-inv ∙ c.share.ensures ∙ rw (trend_is c.before.before)
+damped-is : (c : tie.After-share-damped) → let a = c.before.before.args in to_z w64 (of_z w64 c.share-damped.result) ≡ share a.even a.n.phi a.n.trend
+damped-is c = back w64 c.share-damped.result c.share-damped.type_inv ∙ c.share-damped.ensures ∙ rw (trend_is c.before.before)
 
-add-t4 : tie.Need-overflow-add-t4
+add-t4 : tie.Need-overflow_add-result
 add-t4 c =
     let d = c.before.before in
     let s = d.before.before in
@@ -40,7 +40,12 @@ unfolding advance advanced
 returns c =
     let d = c.before.before.before in
     let s = d.before.before in
-    rw (level_is s, damped-is d, within-back w64 (level-within s) (omega arith), back w64 s.args.n.season c.struct-told3.given.1.1.1.1.1.1.0.1)
+    rw (level_is s, damped-is d, within-back w64 (level-within s) (omega arith), back w64 s.args.n.season c.struct_told-3-1.given.1.1.1.1.1.1.0.1)
 
-pub advance-spec : {M : Type 1} → statement M
-advance-spec = tie.close (tie.spec share-requires add-t4 returns)
+pub advance_spec : {M : Type 1} → statement M
+advance_spec =
+    tie.close
+    (tie.spec
+    share-requires
+    add-t4
+    returns)

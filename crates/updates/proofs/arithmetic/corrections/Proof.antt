@@ -48,26 +48,26 @@ module _ (s : tie.Start) where
   gb : (g : ℕ) (r : ℤ) → mag r < 2 ^ 63 → r ≡ share s.args.t.even g (to_z w64 (of_z w64 s.args.e)) → to_z w64 (of_z w64 r) ≡ share s.args.t.even g s.args.e
   gb g r f e = back w64 r f ∙ e ∙ rw eb
 
-add-t3 : tie.Need-overflow-add-t3
+add-t3 : tie.Need-overflow_add-result
 add-t3 c = let s = c.before.before in rw (lb s, db s) (within-fits w64 (wt s) (omega arith))
 
 share-requires : tie.Need-share-requires
 share-requires c κs = asked c.before.before _ c.before.before.requires.0.alpha
 
-add-t5 : tie.Need-overflow-add-t5
-add-t5 c = let s = c.before.before.before in rw (lb s, db s, within-back w64 (wt s) (omega arith), gb s _ _ c.share.type-inv c.share.ensures) (within-fits w64 (wl s) (omega arith))
+add-t5 : tie.Need-overflow_add-result-2
+add-t5 c = let s = c.before.before.before in rw (lb s, db s, within-back w64 (wt s) (omega arith), gb s _ _ c.share.type_inv c.share.ensures) (within-fits w64 (wl s) (omega arith))
 
 share-requires-2 : tie.Need-share-requires-2
 share-requires-2 c κs = asked c.before.before.before _ c.before.before.before.requires.0.beta
 
-add-t7 : tie.Need-overflow-add-t7
-add-t7 c = let d = c.before.before in let s = d.before.before.before.before in rw (db s, gb s _ _ d.share2.type-inv d.share2.ensures) (within-fits w64 (wb s) (omega arith))
+add-t7 : tie.Need-overflow_add-result-3
+add-t7 c = let d = c.before.before in let s = d.before.before.before.before in rw (db s, gb s _ _ d.share-2.type_inv d.share-2.ensures) (within-fits w64 (wb s) (omega arith))
 
 share-requires-3 : tie.Need-share-requires-3
 share-requires-3 c κs = let s = c.before.before.before.before.before.before in asked s _ s.requires.0.gamma
 
-add-t9 : tie.Need-overflow-add-t9
-add-t9 c = let d = c.before.before in let s = d.before.before.before.before.before.before.before in rw (sb s, gb s _ _ d.share3.type-inv d.share3.ensures) (within-fits w64 (ws s) (omega arith))
+add-t9 : tie.Need-overflow_add-result-4
+add-t9 c = let d = c.before.before in let s = d.before.before.before.before.before.before.before in rw (sb s, gb s _ _ d.share-3.type_inv d.share-3.ensures) (within-fits w64 (ws s) (omega arith))
 
 returns : tie.Need-returns
 unfolding corrections new_level new_trend new_season
@@ -77,9 +77,9 @@ returns c =
     let a = b.before in
     let s = a.before.before.before in
     rw (
-      gb s _ _ a.share.type-inv a.share.ensures,
-      gb s _ _ b.share2.type-inv b.share2.ensures,
-      gb s _ _ d.share3.type-inv d.share3.ensures,
+      gb s _ _ a.share.type_inv a.share.ensures,
+      gb s _ _ b.share-2.type_inv b.share-2.ensures,
+      gb s _ _ d.share-3.type_inv d.share-3.ensures,
       lb s,
       db s,
       sb s,
@@ -90,7 +90,15 @@ returns c =
       within-back w64 (ws s) (omega arith),
     )
 
-pub corrections-spec : {M : Type 1} → statement M
-corrections-spec =
+pub corrections_spec : {M : Type 1} → statement M
+corrections_spec =
     tie.close
-    (tie.spec add-t3 share-requires add-t5 share-requires-2 add-t7 share-requires-3 add-t9 returns)
+    (tie.spec
+    add-t3
+    share-requires
+    add-t5
+    share-requires-2
+    add-t7
+    share-requires-3
+    add-t9
+    returns)

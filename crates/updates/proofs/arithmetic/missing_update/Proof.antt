@@ -9,23 +9,23 @@ use Rattle.updates.proofs.arithmetic.missing_update.Statement.{statement}
 use Rattle.updates.proofs.arithmetic.missing_update.Tie as tie
 
 -- 14, then 15 of its level
-code : (c : tie.After-first) → let a = c.before.before.before.before.before.before.args in c.first.result ≡ gap_code (terms_at a.even a.n) a.n.count
+code : (c : tie.After-first-code) → let a = c.before.before.before.before.before.before.args in c.first-code.result ≡ gap_code (terms_at a.even a.n) a.n.count
 unfolding advance
 code c =
     let k = c.before.before.before.before in
-    let u = k.before.advance.result in
-    rw (c.before.unless.ensures, c.before.before.in-range.ensures, back w64 u.level c.before.before.before.struct_told.given.1.0.1, k.count_code.ensures, k.before.advance.ensures) at c.first.ensures
+    let u = k.before.advance-u.result in
+    rw (c.before.unless-out.ensures, c.before.before.in_range.ensures, back w64 u.level c.before.before.before.struct_told-1.given.1.0.1, k.count_code-full.ensures, k.before.advance-u.ensures) at c.first-code.ensures
 
-returns : tie.Need-returns
+returns : tie.Need-returns-then-code-ne0
 unfolding missing_update
-returns c = rw (← (code c.before.before), ne_eqb _ _ c.before.if1.true) c.not-updated.ensures
+returns c = rw (← (code c.before.before), ne_eqb _ _ c.before.if-code-ne0.true) c.not_updated.ensures
 
-returns-2 : tie.Need-returns-2
+returns-2 : tie.Need-returns
 unfolding missing_update
-returns-2 c = rw (← (code c.before), eq-eqb _ _ c.if1.false) c.before.before.before.before.before.before.advance.ensures
+returns-2 c = rw (← (code c.before), eq-eqb _ _ c.if-code-ne0.false) c.before.before.before.before.before.before.advance-u.ensures
 
-pub missing-update-spec : {M : Type 1} → statement M
-missing-update-spec =
+pub missing_update_spec : {M : Type 1} → statement M
+missing_update_spec =
     tie.close
     (tie.spec
     (λ c κs. search rules)

@@ -37,19 +37,19 @@ module _ (s : tie.Start) where
   yb : to_z w64 (of_z w64 (to_z w32 (of_z w32 s.args.y))) ≡ s.args.y
   yb = rw (to_z-of_z w32 _ s.fits.y) (within-back w64 s.pre.1 (omega arith))
 
-cast-result : tie.Need-overflow-cast-result
+cast-result : tie.Need-overflow_cast-result
 cast-result c = rw (to_z-of_z w32 _ c.ranges.y) (within-fits w64 c.requires.1 (omega arith))
 
-mul-result : tie.Need-overflow-mul-result
+mul-result : tie.Need-overflow_mul-result
 mul-result c = rw (yb c) (within-fits w64 (wm c) (omega arith))
 
-add-result : tie.Need-overflow-add-result
+add-result : tie.Need-overflow_add-result
 add-result c = let s = c.before.before in rw (lb s, db s) (within-fits w64 (wt s) (omega arith))
 
-add-result-2 : tie.Need-overflow-add-result-2
+add-result-2 : tie.Need-overflow_add-result-2
 add-result-2 c = let s = c.before.before.before.before in rw (lb s, db s, within-back w64 (wt s) (omega arith), sb s) (within-fits w64 (wq s) (omega arith))
 
-sub-result : tie.Need-overflow-sub-result
+sub-result : tie.Need-overflow_sub-result
 sub-result c =
     let s = c.before.before.before.before in
     rw (yb s, within-back w64 (wm s) (omega arith), lb s, db s, within-back w64 (wt s) (omega arith), sb s, within-back w64 (wq s) (omega arith)) (within-fits w64 (we s) (omega arith))
@@ -60,6 +60,13 @@ returns c =
     let s = c.before.before.before.before in
     rw (yb s, within-back w64 (wm s) (omega arith), lb s, db s, within-back w64 (wt s) (omega arith), sb s, within-back w64 (wq s) (omega arith), within-back w64 (we s) (omega arith)) (refl, we s)
 
-pub residual-spec : {M : Type 1} → statement M
-residual-spec =
-    tie.close (tie.spec cast-result mul-result add-result add-result-2 sub-result returns)
+pub residual_spec : {M : Type 1} → statement M
+residual_spec =
+    tie.close
+    (tie.spec
+    cast-result
+    mul-result
+    add-result
+    add-result-2
+    sub-result
+    returns)

@@ -15,11 +15,11 @@ use Rattle.ets.proofs.ScoreLaws.{square_le, product_is}
 use Rattle.updates.proofs.arithmetic.square.Statement.{statement}
 use Rattle.updates.proofs.arithmetic.square.Tie as tie
 
-module _ (c : tie.After-round) where
-  rounded : to_z w64 (of_z w64 c.round.result) ≡ R c.before.args.even c.before.args.e
-  rounded = result-is c.before.args.even c.round.type-inv c.round.ensures (within-back w64 c.before.requires (omega arith)) c.before.requires (omega arith)
+module _ (c : tie.After-round-r) where
+  rounded : to_z w64 (of_z w64 c.round-r.result) ≡ R c.before.args.even c.before.args.e
+  rounded = result-is c.before.args.even c.round-r.type_inv c.round-r.ensures (within-back w64 c.before.requires (omega arith)) c.before.requires (omega arith)
 
-  product : to_z w64 (of_z w64 c.round.result) *ℤ to_z w64 (of_z w64 c.round.result) ≡ pos (square_of c.before.args.even c.before.args.e)
+  product : to_z w64 (of_z w64 c.round-r.result) *ℤ to_z w64 (of_z w64 c.round-r.result) ≡ pos (square_of c.before.args.even c.before.args.e)
   unfolding square_of
   product = rw rounded (product_is (R c.before.args.even c.before.args.e))
 
@@ -32,14 +32,20 @@ module _ (c : tie.After-round) where
   again : to_z w64 (of_z w64 (pos (square_of c.before.args.even c.before.args.e))) ≡ pos (square_of c.before.args.even c.before.args.e)
   again = to_z-of_z w64 _ fits
 
-mul-result : tie.Need-overflow-mul-result
+mul-result : tie.Need-overflow_mul-result
 mul-result c = rw (product c) (fits c)
 
-cast-result : tie.Need-overflow-cast-result
+cast-result : tie.Need-overflow_cast-result
 cast-result c = rw (product c, again c) (tt, record { fits = omega (arith, small c) })
 
 returns : tie.Need-returns
 returns c = rw (product c, again c) (refl, small c)
 
-pub square-spec : {M : Type 1} → statement M
-square-spec = tie.close (tie.spec (λ c κs. search rules) mul-result cast-result returns)
+pub square_spec : {M : Type 1} → statement M
+square_spec =
+    tie.close
+    (tie.spec
+    (λ c κs. search rules)
+    mul-result
+    cast-result
+    returns)

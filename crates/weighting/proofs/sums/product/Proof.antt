@@ -22,18 +22,26 @@ module _ (c : tie.Start) where
       ap (λ (n : ℕ). n * c.args.sigma2) e ∙ add-mul (4294967296 * (c.args.w / 4294967296)) (c.args.w % 4294967296) c.args.sigma2
       ∙ ap (λ (n : ℕ). n + c.args.w % 4294967296 * c.args.sigma2) (mul_assoc 4294967296 (c.args.w / 4294967296) c.args.sigma2)
 
-mul_low : tie.Need-overflow-mul-low
+mul_low : tie.Need-overflow_mul-low
 mul_low c = omega (arith, low_small c)
 
-mul-mid : tie.Need-overflow-mul-mid
+mul-mid : tie.Need-overflow_mul-mid
 mul-mid c = omega (arith, mid-small c)
 
-add-mid : tie.Need-overflow-add-mid
+add-mid : tie.Need-overflow_add-mid
 add-mid c = omega (arith, mid-small c, low_small c)
 
 returns : tie.Need-returns
 returns c =
     ap₂ VarianceOf.Accepted (omega (arith, split c, mid-small c, low_small c)) (omega (arith, split c, mid-small c, low_small c))
 
-pub product-spec : {M : Type 1} → statement M
-product-spec = tie.close (tie.spec mul_low mul-mid add-mid (λ c. search rules) (λ c. search rules) returns)
+pub product_spec : {M : Type 1} → statement M
+product_spec =
+    tie.close
+    (tie.spec
+    mul_low
+    mul-mid
+    add-mid
+    (λ c. search rules)
+    (λ c. search rules)
+    returns)

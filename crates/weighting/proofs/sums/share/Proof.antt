@@ -36,23 +36,33 @@ module _ (c : tie.Start) (even : Bool) {r : ℤ} (ok : mag r < 2 ^ hbits w64) (e
   given : (nat_abs (to_z w64 (of_z w64 r)) ≡ answer) × (nat_abs (to_z w64 (of_z w64 r)) ≤ c.args.x)
   given = rw result-is (refl, bound)
 
-mul-v : tie.Need-overflow-mul-v
+mul-v : tie.Need-overflow_mul-v
 mul-v c = omega (arith, small c)
 
-cast-v : tie.Need-overflow-cast-v
+cast-v : tie.Need-overflow_cast-v-2
 cast-v c = natural-fits c.args.a c.args.x (omega (arith, small c))
 
-cast-result : tie.Need-overflow-cast-result
-cast-result c = cast c.before.before true c.round.type-inv c.round.ensures
+cast-result : tie.Need-overflow_cast-result
+cast-result c = cast c.before.before true c.round.type_inv c.round.ensures
 
-cast-result-2 : tie.Need-overflow-cast-result-2
-cast-result-2 c = cast c.before.before false c.round2.type-inv c.round2.ensures
+cast-result-2 : tie.Need-overflow_cast-result-else-even
+cast-result-2 c = cast c.before.before false c.round-else-even.type_inv c.round-else-even.ensures
 
-returns : tie.Need-returns
-returns c = rw c.before.if1.true (given c.before.before true c.round.type-inv c.round.ensures)
+returns : tie.Need-returns-then-even
+returns c = rw c.before.if-even.true (given c.before.before true c.round.type_inv c.round.ensures)
 
-returns-2 : tie.Need-returns-2
-returns-2 c = rw c.before.if1.false (given c.before.before false c.round2.type-inv c.round2.ensures)
+returns-2 : tie.Need-returns-else-even
+returns-2 c = rw c.before.if-even.false (given c.before.before false c.round-else-even.type_inv c.round-else-even.ensures)
 
-pub share-spec : {M : Type 1} → statement M
-share-spec = tie.close (tie.spec mul-v cast-v (λ c κs. search rules) cast-result (λ c κs. search rules) cast-result-2 returns returns-2)
+pub share_spec : {M : Type 1} → statement M
+share_spec =
+    tie.close
+    (tie.spec
+    mul-v
+    cast-v
+    (λ c κs. search rules)
+    cast-result
+    (λ c κs. search rules)
+    cast-result-2
+    returns
+    returns-2)

@@ -10,17 +10,24 @@ use Rattle.weighting.proofs.sums.trend_term.Tie as tie
 straight : (c : tie.Start) → c.args.b * c.args.j ≤ 33554432
 straight c = product_le 65536 512 c.requires.0 c.requires.1
 
-returns : tie.Need-returns
-returns c = rw c.if1.true (omega arith)
+returns : tie.Need-returns-then-trend-eq0
+returns c = rw c.if-trend-eq0.true (omega arith)
 
-mul-result : tie.Need-overflow-mul-result
+mul-result : tie.Need-overflow_mul-result
 mul-result c = omega (arith, straight c.before.before)
 
-returns-2 : tie.Need-returns-2
-returns-2 c = rw (ne_eqb _ 0 c.before.if1.false, c.if2.true) (refl, straight c.before.before)
+returns-2 : tie.Need-returns-then-trend-eq1
+returns-2 c = rw (ne_eqb _ 0 c.before.if-trend-eq0.false, c.if-trend-eq1.true) (refl, straight c.before.before)
 
-returns-3 : tie.Need-returns-3
-returns-3 c = rw (ne_eqb _ 0 c.before.before.if1.false, ne_eqb _ 1 c.before.if2.false) (c.share.ensures.0, omega (arith, c.share.ensures.1))
+returns-3 : tie.Need-returns
+returns-3 c = rw (ne_eqb _ 0 c.before.before.if-trend-eq0.false, ne_eqb _ 1 c.before.if-trend-eq1.false) (c.share.ensures.value, omega (arith, c.share.ensures.bound))
 
-pub trend-term-spec : {M : Type 1} → statement M
-trend-term-spec = tie.close (tie.spec returns mul-result returns-2 (λ c κs. search rules) returns-3)
+pub trend_term_spec : {M : Type 1} → statement M
+trend_term_spec =
+    tie.close
+    (tie.spec
+    returns
+    mul-result
+    returns-2
+    (λ c κs. search rules)
+    returns-3)

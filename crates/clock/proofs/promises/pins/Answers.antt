@@ -1,0 +1,5 @@
+use Rattle.clock.proofs.Computed.{pins}
+use Rattle.clock.proofs.promises.pins.Goals as goal
+
+pub returns : goal.returns
+returns c = pins

@@ -1,0 +1,5 @@
+use Rattle.damped.proofs.Computed.{pins}
+use Rattle.damped.proofs.pins.Goals as goal
+
+pub returns : goal.returns
+returns c = pins

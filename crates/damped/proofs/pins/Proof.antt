@@ -1,9 +1,0 @@
-use Rattle.damped.proofs.Computed.{pins}
-use Rattle.damped.proofs.pins.Statement.{statement}
-use Rattle.damped.proofs.pins.Tie as tie
-
-returns : tie.Need-returns
-returns c = pins
-
-pub pins-spec : {M : Type 1} → statement M
-pins-spec = tie.close (tie.spec returns)

@@ -1,0 +1,25 @@
+-- `saving::writing::write_level` meets its contract: stores one after the other.
+use Prim.Native.Nat.{◌+◌}
+use mathlib.Core.Path.{refl}
+use mathlib.Core.List.{[], ◌∷◌, ◌++◌}
+use mir.Syntax.{w64}
+use mir.Val.{of_z}
+use mir.ValLaws.{to_z-of_z}
+use Rattle.layout.specs.Layout.{level_at}
+use Rattle.saving.specs.Encoding.{signed_bytes, level_bytes}
+use Rattle.saving.proofs.ByteLaws.{length-to_bytes, follow}
+use Rattle.saving.proofs.writing.write_level.Goals as goal
+
+pub returns : goal.returns
+unfolding level_bytes
+returns c =
+    let u = c in
+    let v = u in
+    let w = v in
+    let s = w in
+    let L = signed_bytes s.args.level in
+    let T = signed_bytes s.args.trend in
+    let l = rw (to_z-of_z w64 s.args.level s.ranges.level) at v.write_i64.ensures in
+    let b = rw (to_z-of_z w64 s.args.trend s.ranges.trend) at u.write_i64-2.ensures in
+    follow s.args.d.now level_at (0x11 ∷ []) (L ++ T) w.write_byte.new.0 u.write_i64-2.new.0 (level_at + 1) w.write_byte.ensures
+    (follow w.write_byte.new.0 (level_at + 1) L T v.write_i64.new.0 u.write_i64-2.new.0 (level_at + 9) l b (rw (length-to_bytes 8 (of_z w64 s.args.level)))) refl

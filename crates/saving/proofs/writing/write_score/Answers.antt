@@ -1,0 +1,25 @@
+-- `saving::writing::write_score` meets its contract: stores one after the other.
+use Prim.Native.Nat.{◌+◌}
+use mathlib.Core.Path.{refl}
+use mathlib.Core.List.{[], ◌∷◌, ◌++◌}
+use Rattle.layout.specs.Layout.{score_at}
+use Rattle.saving.specs.Encoding.{to_bytes, score_bytes}
+use Rattle.saving.proofs.ByteLaws.{length-to_bytes, follow}
+use Rattle.saving.proofs.writing.write_score.Goals as goal
+
+pub returns : goal.returns
+unfolding score_bytes
+returns c =
+    let w = c in
+    let h = w in
+    let r = h in
+    let b = r in
+    let s = b.args in
+    let R = to_bytes 8 s.s.readings in
+    let H = to_bytes 8 s.s.high in
+    let L = to_bytes 8 s.s.low in
+    let end = w.write_le-3.new.0 in
+    follow s.d.now score_at (0x15 ∷ []) (R ++ (H ++ L)) b.write_byte.new.0 end (score_at + 1) b.write_byte.ensures
+    (follow b.write_byte.new.0 (score_at + 1) R (H ++ L) r.write_le.new.0 end (score_at + 9) r.write_le.ensures
+    (follow r.write_le.new.0 (score_at + 9) H L h.write_le-2.new.0 end (score_at + 17) h.write_le-2.ensures w.write_le-3.ensures (rw (length-to_bytes 8 s.s.high)))
+    (rw (length-to_bytes 8 s.s.readings))) refl

@@ -1,9 +1,0 @@
-use Rattle.state.proofs.Computed.{pins}
-use Rattle.state.proofs.pins.Statement.{statement}
-use Rattle.state.proofs.pins.Tie as tie
-
-returns : tie.Need-returns
-returns c = pins
-
-pub pins-spec : {M : Type 1} → statement M
-pins-spec = tie.close (tie.spec returns)

@@ -1,0 +1,27 @@
+-- `streams::write_next` meets its contract.
+use Rattle.streams.proofs.StreamLaws.{written_is, bytes-are}
+use Rattle.streams.specs.declared.Written.{Written}
+use Rattle.commands.specs.declared.Performed.{Performed}
+use Rattle.lines.specs.declared.Line.{Line}
+use lib.ListN.{length}
+use mathlib.Core.Path.{ap, ◌∙◌}
+use Rattle.streams.proofs.write_next.Goals as goal
+
+abbrev written : Performed → Line → Written
+written p l = record { performed = p; line = l }
+
+pub returns : goal.returns
+returns c =
+    let a = c.args in
+    let p = c.perform-performed in
+    let w = c.write_line-written.ensures in
+    let s = a.stream.now in
+    let cs = a.checkpoints.now in
+    let d = a.line.now in
+    let saved = p.new.1.1.1.0 in (
+      ap (written p.result) w.0 ∙ written_is s a.session cs (length d) d p.result saved p.ensures.0 p.ensures.1.1,
+      (
+        p.ensures.1.0,
+        w.1 ∙ bytes-are s a.session cs (length d) d p.result saved p.ensures.0 p.ensures.1.1,
+      ),
+    )

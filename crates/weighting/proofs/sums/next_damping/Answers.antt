@@ -1,0 +1,10 @@
+use mathlib.Core.Path.{refl}
+use native.Mathlib.Omega.{arith}
+use borrow.Author.Tests.{lt-ltb, le-ltb}
+use Rattle.weighting.proofs.sums.next_damping.Goals as goal
+
+pub returns-then-trend-lt2 : goal.returns-then-trend-lt2
+returns-then-trend-lt2 c = rw (lt-ltb _ _ c.if-trend-lt2.true) (refl, omega arith)
+
+pub returns : goal.returns
+returns c = rw (le-ltb _ _ c.if-trend-lt2.false) (c.share.ensures.value, c.share.ensures.bound)
