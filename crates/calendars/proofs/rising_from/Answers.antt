@@ -2,7 +2,6 @@
 use mathlib.Core.Path.{refl, sym, ◌∙◌}
 use native.Mathlib.Numerals.{add-one}
 use lib.ListN.{drop_of_length-le}
-
 use Rattle.calendars.specs.Calendars.{rising}
 use Rattle.calendars.proofs.ListLaws.{rising-at}
 use Rattle.calendars.proofs.rising_from.Goals as goal
