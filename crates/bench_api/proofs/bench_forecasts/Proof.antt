@@ -19,7 +19,7 @@ opens c = sym (code c.before) ∙ c.if-code-ne0.false
 
 returns : tie.Need-returns-then-code-ne0
 unfolding all_code all_cells
-returns c = rw (← (code c.before), ne_eqb _ _ c.if-code-ne0.true) (refl, refl)
+returns c = rw (← (code c.before), ne_eqb _ _ c.if-code-ne0.true) record { code = refl; buffer = refl }
 
 returns-2 : tie.Need-returns
 unfolding all_code all_cells forecasts_to
@@ -28,7 +28,7 @@ returns-2 c =
     let i = b.before.before.before in
     let s = state-is _ _ i.before.before.read-opened.ensures (opens i) in
     rw (opens i)
-    (c.code_of.ensures ∙ ap outcome_code (rw s at b.forecasts.ensures.answer) ∙ outcome-code _, rw s at b.forecasts.ensures.buffer)
+    record { code = c.code_of.ensures ∙ ap outcome_code (rw s at b.forecasts.ensures.answer) ∙ outcome-code _; buffer = rw s at b.forecasts.ensures.buffer }
 
 pub bench_forecasts_spec : {M : Type 1} → statement M
 bench_forecasts_spec =

@@ -32,7 +32,7 @@ module _ (c : tie.After-relative_variance) where
   found : c.relative_variance.result ≡ relative_variance (decoded s.args.snapshot.now) s.args.horizon s.args.sigma2 (length s.args.thetas.now)
   found = rw (state-is _ _ i.before.before.read-opened.ensures (opens i)) at c.relative_variance.ensures.answer
 
-  cells : c.relative_variance.new.1.1.1.0 ≡ relative_cells (decoded s.args.snapshot.now) s.args.horizon s.args.sigma2 s.args.thetas.now
+  cells : c.relative_variance.new.h.1.1.0 ≡ relative_cells (decoded s.args.snapshot.now) s.args.horizon s.args.sigma2 s.args.thetas.now
   cells = rw (state-is _ _ i.before.before.read-opened.ensures (opens i)) at c.relative_variance.ensures.buffer
 
 returns-2 : tie.Need-returns-in-Accepted

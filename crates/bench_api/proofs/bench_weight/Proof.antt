@@ -23,19 +23,19 @@ found c =
 
 returns : tie.Need-returns-then-code-ne0
 unfolding in_place_weight_code in_place_weight
-returns c = rw (← (code c.before), ne_eqb _ _ c.if-code-ne0.true) (refl, refl)
+returns c = rw (← (code c.before), ne_eqb _ _ c.if-code-ne0.true) record { code = refl; number = refl }
 
 returns-2 : tie.Need-returns-in-Accepted
 unfolding in_place_weight_code in_place_weight
 returns-2 c =
     let f = c.before.before.before in
-    rw (opens f.before.before, sym (found f) ∙ c.before.w-1.given.1) (refl, refl)
+    rw (opens f.before.before, sym (found f) ∙ c.before.w-1.given.1) record { code = refl; number = refl }
 
 returns-3 : tie.Need-returns-in-Rejected
 unfolding in_place_weight_code in_place_weight
 returns-3 c =
     let f = c.before.before.before in
-    rw (opens f.before.before, sym (found f) ∙ c.before.n-1.given.1) (refl, refl)
+    rw (opens f.before.before, sym (found f) ∙ c.before.n-1.given.1) record { code = refl; number = refl }
 
 pub bench_weight_spec : {M : Type 1} → statement M
 bench_weight_spec =

@@ -19,7 +19,7 @@ opens c = sym (code c.before) ∙ c.if-code-ne0.false
 
 returns : tie.Need-returns-then-code-ne0
 unfolding in_place_groups_code in_place_group_cells
-returns c = rw (← (code c.before), ne_eqb _ _ c.if-code-ne0.true) (refl, refl)
+returns c = rw (← (code c.before), ne_eqb _ _ c.if-code-ne0.true) record { code = refl; buffer = refl }
 
 returns-2 : tie.Need-returns
 unfolding in_place_groups_code in_place_group_cells weight_groups
@@ -28,7 +28,7 @@ returns-2 c =
     let i = b.before.before.before in
     let s = state-is _ _ i.before.before.read-opened.ensures (opens i) in
     rw (opens i)
-    (c.code_of.ensures ∙ ap outcome_code (rw s at b.weight_groups.ensures.answer) ∙ outcome-code _, rw s at b.weight_groups.ensures.buffer)
+    record { code = c.code_of.ensures ∙ ap outcome_code (rw s at b.weight_groups.ensures.answer) ∙ outcome-code _; buffer = rw s at b.weight_groups.ensures.buffer }
 
 pub bench_weight_groups_spec : {M : Type 1} → statement M
 bench_weight_groups_spec =

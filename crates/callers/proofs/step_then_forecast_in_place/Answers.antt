@@ -33,9 +33,9 @@ returns c =
     let f = c.forecaster_forecast.ensures.code in
     let g = c.forecaster_forecast.ensures.number in
     let d = a.snapshot.now in
-    let d' = b.forecaster_step.new.0 in
+    let d' = b.forecaster_step.new.snapshot in
     let r = c.forecaster_forecast.result in
-    let v = c.forecaster_forecast.new.1.1.0 in (
+    let v = c.forecaster_forecast.new.horizon.1.0 in (
       code d d' a.y a.h r a.value.now v e f g,
       (
         e,

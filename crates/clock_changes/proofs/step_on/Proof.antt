@@ -2,7 +2,6 @@ use Prim.Native.Nat.{ℕ}
 use mathlib.Core.Path.{◌≡◌, sym, ap, ◌∙◌}
 use mathlib.Core.Bool.{Bool, true, false}
 use borrow.Author.Rules.{rules}
-
 use mir.Facts.{to_z-of_z}
 use Rattle.calendars.specs.Calendars.{Calendar, calendar_of}
 use Rattle.state.specs.Rejections.{unless, ◌then◌, bad_calendar}

@@ -1,6 +1,5 @@
 -- `fields::score_in` meets its contract.
 use mathlib.Core.Path.{sym, ◌∙◌}
-
 use Rattle.fields.proofs.score_in.Goals as goal
 
 pub returns-then-not-scored : goal.returns-then-not-scored

@@ -19,7 +19,7 @@ code c = rw (c.first-n.ensures, c.before.forecast_code_to.ensures, c.before.befo
 
 returns : tie.Need-returns-then-n-ne0
 unfolding forecasts_to forecast_cells_to
-returns c = rw (← (code c.before), ne_eqb _ _ c.if-n-ne0.true) (refl, refl)
+returns c = rw (← (code c.before), ne_eqb _ _ c.if-n-ne0.true) record { answer = refl; buffer = refl }
 
 ready : (c : tie.Else-n-ne0) → let s = c.before.before.before.before.args in Ready s.limit s.s s.h × (s.h ≤ length s.values-1.now)
 unfolding forecasts_code_to
@@ -41,7 +41,7 @@ returns-2 c =
     let q = f.before.before.before.before in
     let z = sym (code q.before) ∙ q.if-n-ne0.false in
     let s = q.before.before.before.before.args in
-    rw (z, ← (list-unchanged s.s (valid _ (ready q).0.valid) s.h)) (refl, f.fill.ensures)
+    rw (z, ← (list-unchanged s.s (valid _ (ready q).0.valid) s.h)) record { answer = refl; buffer = f.fill.ensures }
 
 pub forecasts_to_spec : {M : Type 1} → statement M
 forecasts_to_spec =

@@ -95,7 +95,7 @@ unopened c =
     not-read (d c.before) _ (goes_by c.before) (forecast_code (decoded (d c.before)) (h c.before)) c.if-code-ne0.true
 
 returns : tie.Need-returns-then-code-ne0
-returns c = let o = c.before in let e = unopened c in (e, kept (d o) (h o) _ _ e c.if-code-ne0.true)
+returns c = let o = c.before in let e = unopened c in record { code = e; number = kept (d o) (h o) _ _ e c.if-code-ne0.true }
 
 season-ahead-requires : tie.Need-season_ahead-season-requires
 season-ahead-requires c κs = let i = c.before in room_in (d i.before) _ (goes_by i.before) i.if-code-ne0.false
@@ -106,7 +106,7 @@ returns-2 c =
     let f = c.before.before.before in
     let r = answer-rejected _ _ c.before.k-1.given.0.0 (sym (forecasted f) ∙ c.before.k-1.given.1) in
     let e = told f _ r.0 in
-    (e, kept (d (o f)) (h (o f)) _ _ e (λ n. r.1 (r.0 ∙ n)))
+    record { code = e; number = kept (d (o f)) (h (o f)) _ _ e (λ n. r.1 (r.0 ∙ n)) }
 
 returns-3 : tie.Need-returns-in-Accepted
 unfolding forecast_from
@@ -114,7 +114,7 @@ returns-3 c =
     let f = c.before.before.before in
     let r = answer-accepted _ _ c.before.v-1.given.0.0 (sym (forecasted f) ∙ c.before.v-1.given.1) in
     let e = told f 0 r.0 in
-    (e, to_z-of_z w64 c.before.v-1.given.0.0 (search rules) ∙ sym r.1 ∙ value-is f (sym (code_is f) ∙ r.0) ∙ put (d (o f)) (h (o f)) _ e)
+    record { code = e; number = to_z-of_z w64 c.before.v-1.given.0.0 (search rules) ∙ sym r.1 ∙ value-is f (sym (code_is f) ∙ r.0) ∙ put (d (o f)) (h (o f)) _ e }
 
 pub forecast_spec : {M : Type 1} → statement M
 forecast_spec =

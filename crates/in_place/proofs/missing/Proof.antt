@@ -58,14 +58,14 @@ unfolding in_place_missing_code in_place_missing_bytes
 returns c =
     let q = c.before in
     let e = unopened (d q) _ (rewritable q) missing_code c.if-code-ne0.true in
-    (e, (rejected missing_code next (λ s. pos 0) (d q) (pos 0) _ e c.if-code-ne0.true).0)
+    record { code = e; bytes = (rejected missing_code next (λ s. pos 0) (d q) (pos 0) _ e c.if-code-ne0.true).0 }
 
 returns-2 : tie.Need-returns-then-rejection-ne0
 unfolding in_place_missing_code in_place_missing_bytes
 returns-2 c =
     let q = k c.before in
     let e = told c.before _ refl in
-    (e, (rejected missing_code next (λ s. pos 0) (d q) (pos 0) _ e c.if-rejection-ne0.true).0)
+    record { code = e; bytes = (rejected missing_code next (λ s. pos 0) (d q) (pos 0) _ e c.if-rejection-ne0.true).0 }
 
 upgrade-requires : tie.Need-upgrade-requires
 upgrade-requires c κs =
@@ -94,13 +94,13 @@ returns-3 c =
     let n = u.update_missing-u.result in
     let t = w.before.struct_told-2-1.given in
     let z = sym (code_is u) ∙ i.if-rejection-ne0.false in
-    let e = told u 0 i.if-rejection-ne0.false in (
-      e,
-      w.advance.ensures
-          ∙ ap₂ (λ (l b : ℤ). advanced_on r.upgrade.new.0 x.period x.index x.numbers.count l b) (back w64 n.level t.1.0.1) (back w64 n.trend t.1.1.0.1)
+    let e = told u 0 i.if-rejection-ne0.false in record {
+      code = e;
+      bytes = w.advance.ensures
+          ∙ ap₂ (λ (l b : ℤ). advanced_on r.upgrade.new.d x.period x.index x.numbers.count l b) (back w64 n.level t.1.0.1) (back w64 n.trend t.1.1.0.1)
           ∙ missing-stored (d q) _ (held u) _ r.upgrade.ensures n (update-is u) z
-          ∙ (accepted-call missing_code next (λ s. pos 0) (d q) (pos 0) e).0,
-    )
+          ∙ (accepted-call missing_code next (λ s. pos 0) (d q) (pos 0) e).0;
+    }
 
 pub missing_spec : {M : Type 1} → statement M
 missing_spec =

@@ -55,7 +55,7 @@ module _ (c : tie.After-update-u) where
   held = holds (d k) _ (goes_by k) ((goes_by k).code ∙ (rewrite-facts (d k) _ (rewritable k) c.before.before.if-code-ne0.false).0)
 
   update-is : c.update-u.result ≡ update (ties_to_even (decoded (d k)).model) (numbers_of (decoded (d k))) (y k)
-  update-is = (rw (to_z-of_z k.before.before.before.before.fits.reading) at c.update-u.ensures) ∙ ap₂ (λ (even : Bool) (n : Numbers). update even n (y k)) held.even held.numbers
+  update-is = (rw (to_z-of_z k.before.before.before.before.ranges.reading) at c.update-u.ensures) ∙ ap₂ (λ (even : Bool) (n : Numbers). update even n (y k)) held.even held.numbers
 
   code_is : c.update-u.result.code ≡ step_code (decoded (d k)) (y k)
   code_is = ap (λ (u : Update). u.code) update-is ∙ direct-code (decoded (d k)) held.passes (y k)

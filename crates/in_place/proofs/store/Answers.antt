@@ -23,7 +23,7 @@ returns c =
     let a = p.args in
     let u = a.u in
     let e = p.put_season.ensures ∙ ap (λ (x : ℤ). season_put a.d.now a.m a.p x) (back w64 u.season t.1.1.1.0.1) in
-    let r = written-room p.put_season.new.0 score_at (score_bytes a.score) score_length (length-score a.score) (omega arith) in
+    let r = written-room p.put_season.new.d score_at (score_bytes a.score) score_length (length-score a.score) (omega arith) in
     let f = q.rewrite_score.ensures ∙ r ∙ ap (λ (x : List ℕ). score_put x a.score) e in
     v.advance.ensures
     ∙ ap (λ (x : List ℕ). advanced_on x a.m a.p a.count (to_z w64 (of_z w64 u.level)) (to_z w64 (of_z w64 u.trend))) f

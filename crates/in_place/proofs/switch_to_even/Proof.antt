@@ -37,7 +37,7 @@ opens : (c : tie.Else-code-ne0) → in_place_code (d c.before) ≡ 0
 opens c = (rewrite-facts (d c.before) _ (rewritable c.before) c.if-code-ne0.false).0
 
 -- the model byte is one of the slice's
-room : (c : tie.After-upgrade) → 1 < length c.upgrade.new.0
+room : (c : tie.After-upgrade) → 1 < length c.upgrade.new.d
 room c = omega (arith, ap length c.upgrade.ensures ∙ length-encoded (decoded (d c.before.before.before)))
 
 returns : tie.Need-returns-then-code-ne0
@@ -45,7 +45,7 @@ unfolding in_place_switch_code in_place_switch_bytes
 returns c =
     let q = c.before in
     let e = unopened (d q) _ (rewritable q) check c.if-code-ne0.true in
-    (e, (rejected check next (λ s. pos 0) (d q) (pos 0) _ e c.if-code-ne0.true).0)
+    record { code = e; bytes = (rejected check next (λ s. pos 0) (d q) (pos 0) _ e c.if-code-ne0.true).0 }
 
 upgrade-requires : tie.Need-upgrade-requires
 upgrade-requires c κs =
@@ -67,7 +67,7 @@ returns-2 c =
     let k = i.before in
     let z = opens i in
     let e : 0 ≡ rejection check (d k) = opened (d k) _ (rewritable k) check i.if-code-ne0.false 0 (sym (passes (d k) z)) in
-    (e, rw c.to_even.ensures (switch-stored (d k) z _ r.upgrade.ensures ∙ (accepted-call check next (λ s. pos 0) (d k) (pos 0) e).0))
+    record { code = e; bytes = rw c.to_even.ensures (switch-stored (d k) z _ r.upgrade.ensures ∙ (accepted-call check next (λ s. pos 0) (d k) (pos 0) e).0) }
 
 pub switch_to_even_spec : {M : Type 1} → statement M
 switch_to_even_spec =

@@ -3,7 +3,6 @@ use mathlib.Core.Path.{◌≡◌, sym, ap, ◌∙◌}
 use mathlib.Core.List.{List}
 use Prim.Native.Nat.{ℕ}
 use lib.ListN.{length}
-
 use Rattle.state.specs.declared.State.{State}
 use Rattle.state.proofs.Passing.{bounded}
 use Rattle.state.proofs.Tests.{then-zero}
@@ -27,7 +26,7 @@ module _ (s : tie.Start) where
   d = s.args.d.now
 
   opens : (in_place_code d ≡ 0) × (room_code d ≡ 0)
-  opens = then-zero (in_place_code d) (room_code d) s.pre.0
+  opens = then-zero (in_place_code d) (room_code d) s.requires.0
 
   fills : length (encoded (decoded d)) ≡ length d
   fills = rewrite-length d opens.0 opens.1

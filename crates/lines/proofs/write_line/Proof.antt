@@ -22,7 +22,7 @@ returns : tie.Need-returns-then-d-n
 returns c =
     let a = c.before.before.before.before.before.args in
     let w = short a.reply a.saved.now a.d.now (rw (← (size c.before)) c.if-d-n.true) in
-    (sym w.0, sym w.1)
+    record { answer = sym w.0; bytes = sym w.1 }
 
 returns-2 : tie.Need-returns
 unfolding line_of
@@ -30,7 +30,7 @@ returns-2 c =
     let a = c.before.before.before.before.before.before.before.before.before.args in
     let n = size c.before.before.before.before.before in
     let w = long-enough a.reply a.saved.now a.d.now (rw (← n) c.before.before.before.before.if-d-n.false) in
-    (ap LineOf.Bytes n ∙ sym w.0, c.before.before.put_fields.ensures ∙ ap (λ (f : Fields). sets a.d.now 0 (fields_bytes a.saved.now f)) c.before.before.before.before.before.before.fields_of-f.ensures ∙ sym w.1)
+    record { answer = ap LineOf.Bytes n ∙ sym w.0; bytes = c.before.before.put_fields.ensures ∙ ap (λ (f : Fields). sets a.d.now 0 (fields_bytes a.saved.now f)) c.before.before.before.before.before.before.fields_of-f.ensures ∙ sym w.1 }
 
 pub write_line_spec : {M : Type 1} → statement M
 write_line_spec =

@@ -12,7 +12,7 @@ least : (k : ℕ) → 0 < 256 ^ k
 least k = let z : 256 ^ 0 ≤ 256 ^ k = pow-le-pow_right (lit< tt) zero-le in omega arith
 
 pub returns-then-s-at : goal.returns-then-s-at
-returns-then-s-at c = let a = c.args in (sym (none-there a.s.now a.at a.k c.if-s-at.true), least a.k)
+returns-then-s-at c = let a = c.args in record { value = sym (none-there a.s.now a.at a.k c.if-s-at.true); small = least a.k }
 
 pub returns : goal.returns
 returns c =

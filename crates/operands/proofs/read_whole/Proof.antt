@@ -62,7 +62,7 @@ loop-again c =
 returns : tie.Need-returns invariant-loop decreases-loop
 returns c =
     let e : c.before.loop-i.i ≡ c.before.before.before.args.k = omega arith in
-    (rw (e, sub_self, add-zero) at c.before.loop-i.invariant.2, rw e at c.before.loop-i.invariant.1)
+    record { value = rw (e, sub_self, add-zero) at c.before.loop-i.invariant.2; small = rw e at c.before.loop-i.invariant.1 }
 
 pub read_whole_spec : {M : Type 1} → statement M
 read_whole_spec =

@@ -34,16 +34,16 @@ module _ (c : tie.After-forecasts) where
   h = st.args.h
 
   ready : Ready 512 st.args.s h
-  ready = record { valid = st.pre.0; least = st.pre.1; most = st.pre.2 }
+  ready = record { valid = st.requires.0; least = st.requires.1; most = st.requires.2 }
 
   facts : Valid st.args.s
-  facts = valid st.args.s st.pre.0
+  facts = valid st.args.s st.requires.0
 
   abbrev means : List ℤ
-  means = c.forecasts.new.1.1.0
+  means = c.forecasts.new.h.1.0
 
   means_is : means ≡ forecast_list st.args.s h ++ drop h (replicate 512 (pos 0))
-  means_is = forecasts-filled st.args.s h (replicate 512 (pos 0)) ready st.pre.2 c.forecasts.ensures.buffer
+  means_is = forecasts-filled st.args.s h (replicate 512 (pos 0)) ready st.requires.2 c.forecasts.ensures.buffer
 
 -- ---- the coefficients
 module _ (c : tie.After-coefficients) where
@@ -51,22 +51,22 @@ module _ (c : tie.After-coefficients) where
   first = c.before.before.before
 
   abbrev cs : List ℕ
-  cs = c.coefficients.new.1.1.0
+  cs = c.coefficients.new.h.1.0
 
   cs-is : cs ≡ coefficient_list (st first).args.s (h first) ++ drop (h first) (replicate 512 0)
-  cs-is = coefficients-filled (st first).args.s (h first) (replicate 512 0) (ready first) (st first).pre.2 c.coefficients.ensures.buffer
+  cs-is = coefficients-filled (st first).args.s (h first) (replicate 512 0) (ready first) (st first).requires.2 c.coefficients.ensures.buffer
 
 squares-requires : tie.Need-squares-requires
 squares-requires c κs =
     let k = c.before.before.before in
     let s = st (first k) in
-    (s.pre.2, s.pre.2, coefficients-small s.args.s (facts (first k)) s.args.h s.pre.2 (cs k) _ (cs-is k))
+    (s.requires.2, s.requires.2, coefficients-small s.args.s (facts (first k)) s.args.h s.requires.2 (cs k) _ (cs-is k))
 
 fill-requires : tie.Need-fill-sound-requires
 fill-requires c κs =
     let f = first c.before.before.before.before.before.before.before in
     let s = st f in
-    (s.pre.1, s.pre.2, s.pre.2, means-small s.args.s (facts f) s.args.h s.pre.2 (means f) _ (means_is f))
+    (s.requires.1, s.requires.2, s.requires.2, means-small s.args.s (facts f) s.args.h s.requires.2 (means f) _ (means_is f))
 
 -- ---- the θ
 module _ (c : tie.After-fill-sound) where
@@ -83,16 +83,16 @@ module _ (c : tie.After-fill-sound) where
   σ² = (st f).args.sigma2
 
   abbrev c2 : List Float
-  c2 = c.before.before.before.before.squares.new.1.1.0
+  c2 = c.before.before.before.before.squares.new.h.1.0
 
   abbrev own : List Float
-  own = c.fill-sound.new.1.1.1.1.0
+  own = c.fill-sound.new.c2.1.1.1.0
 
   same-means : (k : ℕ) → 1 ≤ k → k ≤ h f → means_in (means f) k ≡ squared_mean s k
-  same-means = means-are s (facts f) (h f) (st f).pre.2 (means f) _ (means_is f)
+  same-means = means-are s (facts f) (h f) (st f).requires.2 (means f) _ (means_is f)
 
   same-squares : (j : ℕ) → 1 ≤ j → j ≤ h f → squares_in c2 j ≡ squared_coefficient s j
-  same-squares = squares-are s (facts f) (h f) (st f).pre.2 (cs seconds) _ (cs-is seconds) c2 _ c.before.before.before.before.squares.ensures
+  same-squares = squares-are s (facts f) (h f) (st f).requires.2 (cs seconds) _ (cs-is seconds) c2 _ c.before.before.before.before.squares.ensures
 
   abbrev θs : List Float
   θs = thetas (squared_mean s) (squared_coefficient s) σ² (h f)
@@ -116,7 +116,7 @@ module _ (c : tie.After-fill-sound) where
   first-are = own_first θs own _ (h f) long owns
 
   last-is : get_or own (h f - 1) nan ≡ theta_in θs (h f)
-  last-is = own-last θs own _ (h f) long owns (st f).pre.1
+  last-is = own-last θs own _ (h f) long owns (st f).requires.1
 
 -- the last forecast, as the machine reads it
 last-mean : (c : tie.After-spread-arg-1) → let g = f c.before in let m = get_or (means g) (h g - 1) (pos 0) in to_z w64 (of_z w64 m) ≡ m
@@ -125,7 +125,7 @@ last-mean c = to_z-of_z w64 (get_or (means (f c.before)) (h (f c.before) - 1) (p
 spread-requires : tie.Need-spread-v-requires
 spread-requires c κs =
     let g = f c.before in
-    rw (last-mean c) (means-small (st g).args.s (facts g) (h g) (st g).pre.2 (means g) _ (means_is g) (h g - 1) (omega (arith, (st g).pre.1)))
+    rw (last-mean c) (means-small (st g).args.s (facts g) (h g) (st g).requires.2 (means g) _ (means_is g) (h g - 1) (omega (arith, (st g).requires.1)))
 
 -- ---- the answer
 module _ (c : tie.After-is_finite) where
@@ -136,7 +136,7 @@ module _ (c : tie.After-is_finite) where
   unfolding variance_of
   value =
       let g = f filled in
-      let m = ap squared (last-mean c.before.before) ∙ same-means filled (h g) (st g).pre.1 (omega arith) in
+      let m = ap squared (last-mean c.before.before) ∙ same-means filled (h g) (st g).requires.1 (omega arith) in
       c.before.spread-v.ensures
       ∙ ap₂ (λ (x y : Float). sub binary64 (mul binary64 (add binary64 one (σ² filled)) x) y) (last-is filled) m
 
@@ -148,7 +148,7 @@ copy-requires : tie.Need-copy-requires
 copy-requires c κs =
     let k = filled c.before.before.before in
     let g = st (f k) in
-    (g.pre.2, g.pre.3, enough k)
+    (g.requires.2, g.requires.3, enough k)
 
 returns : tie.Need-returns-then-sound-is_finite
 unfolding computed_variance computed_cells
@@ -156,13 +156,13 @@ returns c =
     let copied = c.before.before in
     let a = copied.before.before.before.before in
     let e = code a true copied.before.before.before.if-sound-is_finite.true in
-    (rw e (ap VarianceOf.Accepted (value a)), rw e (rw (first-are (filled a)) at copied.copy.ensures))
+    record { answer = rw e (ap VarianceOf.Accepted (value a)); cells = rw e (rw (first-are (filled a)) at copied.copy.ensures) }
 
 returns-2 : tie.Need-returns-else-sound-is_finite
 unfolding computed_variance computed_cells
 returns-2 c =
     let e = code c.before false c.if-sound-is_finite.false in
-    (rw e, rw e)
+    record { answer = rw e; cells = rw e }
 
 pub computed_spec : {M : Type 1} → statement M
 computed_spec =

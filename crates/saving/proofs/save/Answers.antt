@@ -12,7 +12,7 @@ pub returns-then-code-ne0 : goal.returns-then-code-ne0
 unfolding save save_code saved_bytes
 returns-then-code-ne0 c =
     let n = ne_eqb _ _ c.if-code-ne0.true in
-    rw (← c.check-code.ensures, n, n) (refl, refl)
+    rw (← c.check-code.ensures, n, n) record { answer = refl; bytes = refl }
 
 pub returns-then-buffer-size_of : goal.returns-then-buffer-size_of
 unfolding save save_code saved_bytes
@@ -22,7 +22,7 @@ returns-then-buffer-size_of c =
     let e = k.check-code.ensures in
     let n = eq-eqb _ _ k.if-code-ne0.false in
     let l = lt-leb (size_of a.s.period) (length a.buffer.now) (omega (arith, c.size_of.ensures)) in
-    rw (← e, n, l) (refl, refl)
+    rw (← e, n, l) record { answer = refl; bytes = refl }
 
 pub write_snapshot-requires : goal.write_snapshot-requires
 write_snapshot-requires c =
@@ -38,4 +38,4 @@ returns c =
     let e = k.check-code.ensures in
     let n = eq-eqb _ _ k.if-code-ne0.false in
     let l = le-leb (size_of a.s.period) (length a.buffer.now) (omega (arith, w.size_of.ensures)) in
-    rw (← e, n, l) (refl, w.write_snapshot.ensures)
+    rw (← e, n, l) record { answer = refl; bytes = w.write_snapshot.ensures }

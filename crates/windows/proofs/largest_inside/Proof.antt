@@ -48,7 +48,7 @@ step-at : (c : tie.After-walk-t invariant-loop decreases-loop) → let at = c.be
 step-at c =
     let at = c.before.before in
     let s = start at in
-    walk_step (lists s) s.args.s s.pre.0 s.pre.1 at.loop-i.i at.loop-i.p at.loop-i.n at.loop-i.at c.walk-t.result at.loop-i.invariant.1 c.walk-t.ensures
+    walk_step (lists s) s.args.s s.requires.0 s.requires.1 at.loop-i.i at.loop-i.p at.loop-i.n at.loop-i.at c.walk-t.result at.loop-i.invariant.1 c.walk-t.ensures
 
 loop-holds : tie.Need-loop-i-init invariant-loop decreases-loop
 unfolding inside_to
@@ -63,7 +63,7 @@ add-n : tie.Need-overflow_add-n invariant-loop decreases-loop
 add-n c =
     let at = c.before.before.before.before.before.before in
     let s = start at in
-    omega (arith, at.loop-i.invariant.1.count, at.loop-i.invariant.0, (bounded s.args.s s.pre.0).count)
+    omega (arith, at.loop-i.invariant.1.count, at.loop-i.invariant.0, (bounded s.args.s s.requires.0).count)
 
 loop-less : tie.Need-loop-i-smaller invariant-loop decreases-loop
 loop-less c = let l = below c.before.before.before.before.before in omega arith
@@ -84,15 +84,15 @@ module _ (c : tie.After-raised-best invariant-loop decreases-loop) where
 
   value-is : to_z w64 (of_z w64 (get_or s.args.values.now at.loop-i.i (pos 0))) ≡ forecast_by (lists s) s.args.s (suc at.loop-i.i)
   value-is =
-      back w64 _ c.before.raised-arg-1.given ∙ ap (λ (zs : List ℤ). get_or zs at.loop-i.i (pos 0)) s.pre.2 ∙ forecast-at (lists s) s.args.s 24 at.loop-i.i (below w.before)
+      back w64 _ c.before.raised-arg-1.given ∙ ap (λ (zs : List ℤ). get_or zs at.loop-i.i (pos 0)) s.requires.2 ∙ forecast-at (lists s) s.args.s 24 at.loop-i.i (below w.before)
 
   some_is : (at.loop-i.some || c.before.before.in_window-taken.result) ≡ is_some (inside_to (lists s) s.args.s s.args.first s.args.end (suc at.loop-i.i))
-  some_is = ap₂ (λ (x y : Bool). x || y) at.loop-i.inv.2 taken_is ∙ some_next (lists s) s.args.s s.args.first s.args.end at.loop-i.i
+  some_is = ap₂ (λ (x y : Bool). x || y) at.loop-i.invariant.2 taken_is ∙ some_next (lists s) s.args.s s.args.first s.args.end at.loop-i.i
 
   best-is : to_z w64 (of_z w64 c.raised-best.result) ≡ largest (inside_to (lists s) s.args.s s.args.first s.args.end (suc at.loop-i.i))
   best-is =
       back w64 c.raised-best.result c.raised-best.type_inv ∙ c.raised-best.ensures
-      ∙ same _ _ _ _ _ _ _ _ taken_is at.loop-i.inv.2 at.loop-i.inv.3 value-is
+      ∙ same _ _ _ _ _ _ _ _ taken_is at.loop-i.invariant.2 at.loop-i.invariant.3 value-is
       ∙ best-next (lists s) s.args.s s.args.first s.args.end at.loop-i.i
     where
       same : (x x' y y' : Bool) (b b' v v' : ℤ) → x ≡ x' → y ≡ y' → b ≡ b' → v ≡ v' → raised x y b v ≡ raised x' y' b' v'

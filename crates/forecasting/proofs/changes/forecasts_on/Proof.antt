@@ -29,7 +29,7 @@ returns c =
     let n = c.before.first-n.result in
     let s = c.before.before.before.before.before.before.args in
     let e = rejected (calendar_code s.s.period (calendar_of s.skipped.now s.repeated.now)) n (forecasts_code s.s s.h (length s.values-1.now)) c.if-n-ne0.true (sym (plain c.before)) in
-    rw (e, ne_eqb n 0 c.if-n-ne0.true) (refl, refl)
+    rw (e, ne_eqb n 0 c.if-n-ne0.true) record { answer = refl; buffer = refl }
 
 -- the lists decide
 module _ (c : tie.After-calendar_ok) where
@@ -51,7 +51,7 @@ module _ (c : tie.After-calendar_ok) where
 
 returns-2 : tie.Need-returns-then-not-calendar_ok
 unfolding forecasts_on forecast_cells_on
-returns-2 c = rw (code c.before false c.if-not-calendar_ok.true) (refl, refl)
+returns-2 c = rw (code c.before false c.if-not-calendar_ok.true) record { answer = refl; buffer = refl }
 
 fill-requires : tie.Need-fill-requires
 unfolding forecasts_code_to
@@ -67,7 +67,7 @@ unfolding forecasts_on forecast_cells_on
 returns-3 c =
     let f = c.before in
     let q = f.before.before in
-    rw (code q.before true q.if-not-calendar_ok.false) (refl, f.fill.ensures)
+    rw (code q.before true q.if-not-calendar_ok.false) record { answer = refl; buffer = f.fill.ensures }
 
 pub forecasts_on_spec : {M : Type 1} → statement M
 forecasts_on_spec =

@@ -50,21 +50,21 @@ turn_at c =
     let at = c.before.before in
     let s = start at in
     let b = bounded_at s in
-    turn (ties_to_even s.args.t1.model) s.args.t1.level s.args.t1.phi s.args.t1.trend b.phi b.level b.trend at.loop-i.i (omega (arith, s.pre.2, c.before.loop-i-test.true)) (to_z w64 at.loop-i.d) (to_z w64 at.loop-i.line) c.share-d.result at.loop-i.invariant.1 at.loop-i.invariant.2 c.share-d.type_inv (rw at.loop-i.invariant.6 at c.share-d.ensures)
+    turn (ties_to_even s.args.t1.model) s.args.t1.level s.args.t1.phi s.args.t1.trend b.phi b.level b.trend at.loop-i.i (omega (arith, s.requires.2, c.before.loop-i-test.true)) (to_z w64 at.loop-i.d) (to_z w64 at.loop-i.line) c.share-d.result at.loop-i.invariant.1 at.loop-i.invariant.2 c.share-d.type_inv (rw at.loop-i.invariant.6 at c.share-d.ensures)
 
 -- a turn of the loop is a step of the walk
 step-at : (c : tie.After-walk-t invariant-loop decreases-loop) → let at = c.before.before.before in let s = start at in Stepping (lists s) s.args.t1 at.loop-i.i at.loop-i.n c.walk-t.result
 step-at c =
     let at = c.before.before.before in
     let s = start at in
-    walk_step (lists s) s.args.t1 s.pre.0 s.pre.1 at.loop-i.i at.loop-i.p at.loop-i.n at.loop-i.at c.walk-t.result at.loop-i.invariant.3 c.walk-t.ensures
+    walk_step (lists s) s.args.t1 s.requires.0 s.requires.1 at.loop-i.i at.loop-i.p at.loop-i.n at.loop-i.at c.walk-t.result at.loop-i.invariant.3 c.walk-t.ensures
 
 -- its place is one of the array's
 place_in : (c : tie.After-walk-t invariant-loop decreases-loop) → c.walk-t.result.used < 48
 place_in c =
     let at = c.before.before.before in
     let s = start at in
-    rw (step-at c).used (place-small (lists s) s.args.t1 s.pre.0 s.pre.1 (suc at.loop-i.i))
+    rw (step-at c).used (place-small (lists s) s.args.t1 s.requires.0 s.requires.1 (suc at.loop-i.i))
 
 loop-holds : tie.Need-loop-i-init invariant-loop decreases-loop
 unfolding trend_at trend_line forecast_list_by
@@ -122,8 +122,8 @@ module _ (c : tie.After-season-1 invariant-loop decreases-loop) where
   unfolding forecast_by
   value-fits =
       within-fits w64
-      (within-add {m = 1099511627776} (line-bound _ _ _ _ (bounded_at st).phi (bounded_at st).level (bounded_at st).trend (suc at.loop-i.i) (omega (arith, st.pre.2, c.before.before.before.before.loop-i-test.true)))
-      ((bounded_at st).cells _ (place-small k st.args.t1 st.pre.0 st.pre.1 (suc at.loop-i.i))))
+      (within-add {m = 1099511627776} (line-bound _ _ _ _ (bounded_at st).phi (bounded_at st).level (bounded_at st).trend (suc at.loop-i.i) (omega (arith, st.requires.2, c.before.before.before.before.loop-i-test.true)))
+      ((bounded_at st).cells _ (place-small k st.args.t1 st.requires.0 st.requires.1 (suc at.loop-i.i))))
       (omega arith)
 
   value-is : line-now +ℤ season-now ≡ forecast_by k st.args.t1 (suc at.loop-i.i)
@@ -135,8 +135,8 @@ module _ (c : tie.After-season-1 invariant-loop decreases-loop) where
 
   stored_is : set at.loop-i.values at.loop-i.i (to_z w64 (of_z w64 (line-now +ℤ season-now))) ≡ forecast_list_by k st.args.t1 (suc at.loop-i.i) ++ drop (suc at.loop-i.i) st.args.values.now
   stored_is =
-      ap₂ (λ (l : List ℤ) (v : ℤ). set l at.loop-i.i v) at.loop-i.inv.5 machine-is
-      ∙ list-more-by k st.args.t1 at.loop-i.i st.args.values.now (omega (arith, st.pre.3, c.before.before.before.before.loop-i-test.true))
+      ap₂ (λ (l : List ℤ) (v : ℤ). set l at.loop-i.i v) at.loop-i.invariant.5 machine-is
+      ∙ list-more-by k st.args.t1 at.loop-i.i st.args.values.now (omega (arith, st.requires.3, c.before.before.before.before.loop-i-test.true))
 
 add-values : tie.Need-overflow_add-values invariant-loop decreases-loop
 add-values c = rw (value-is c) (value-fits c)
@@ -144,7 +144,7 @@ add-values c = rw (value-is c) (value-fits c)
 add-n : tie.Need-overflow_add-n invariant-loop decreases-loop
 add-n c =
     let f = at c.before in
-    omega (arith, f.loop-i.inv.3.count, f.loop-i.inv.0, (bounded_at (start f)).count, (start f).pre.2)
+    omega (arith, f.loop-i.invariant.3.count, f.loop-i.invariant.0, (bounded_at (start f)).count, (start f).requires.2)
 
 loop-again : tie.Need-loop-i-preserved invariant-loop decreases-loop
 loop-again c =

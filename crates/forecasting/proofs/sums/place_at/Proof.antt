@@ -29,7 +29,7 @@ step-at : (c : tie.After-walk-t invariant-loop decreases-loop) → let at = c.be
 step-at c =
     let at = c.before.before in
     let s = start at in
-    walk_step (lists s) s.args.s s.pre.0 s.pre.1 at.loop-i.i at.loop-i.p at.loop-i.n at.loop-i.at c.walk-t.result at.loop-i.invariant.1 c.walk-t.ensures
+    walk_step (lists s) s.args.s s.requires.0 s.requires.1 at.loop-i.i at.loop-i.p at.loop-i.n at.loop-i.at c.walk-t.result at.loop-i.invariant.1 c.walk-t.ensures
 
 loop-holds : tie.Need-loop-i-init invariant-loop decreases-loop
 loop-holds c =
@@ -40,7 +40,7 @@ add-n : tie.Need-overflow_add-n invariant-loop decreases-loop
 add-n c =
     let at = c.before.before.before in
     let s = start at in
-    omega (arith, at.loop-i.invariant.1.count, at.loop-i.invariant.0, (bounded s.args.s s.pre.0).count, s.pre.2)
+    omega (arith, at.loop-i.invariant.1.count, at.loop-i.invariant.0, (bounded s.args.s s.requires.0).count, s.requires.2)
 
 add-i : tie.Need-overflow_add-i invariant-loop decreases-loop
 add-i c = let at = c.before.before.before in omega (arith, at.loop-i.invariant.0, (start at).requires.2)
@@ -57,7 +57,7 @@ returns c =
     let s = start at in
     let e : at.loop-i.i ≡ s.args.h = omega (arith, at.loop-i.invariant.0, c.loop-i-test.false) in
     let u = rw e at at.loop-i.invariant.2 in
-    (u, rw u (place-small (lists s) s.args.s s.pre.0 s.pre.1 s.args.h))
+    record { value = u; bound = rw u (place-small (lists s) s.args.s s.requires.0 s.requires.1 s.args.h) }
 
 pub place_at_spec : {M : Type 1} → statement M
 place_at_spec =

@@ -4,7 +4,6 @@ use mathlib.Core.Bool.{true}
 use native.Mathlib.Nat.{mod-lt}
 use native.Mathlib.Omega.{arith}
 use mir.Syntax.{w64}
-
 use Rattle.integers.proofs.Difference.{back}
 use Rattle.integers.proofs.Bounds.{within-zero}
 use Rattle.models.specs.Models.{has_season}
@@ -29,7 +28,7 @@ index_in c =
 
 returns : tie.Need-returns-then-not-has_season
 unfolding season_at
-returns c = rw (sym c.before.has_season.ensures ∙ c.if-not-has_season.true) (refl, within-zero 1099511627776)
+returns c = rw (sym c.before.has_season.ensures ∙ c.if-not-has_season.true) record { value = refl; bound = within-zero 1099511627776 }
 
 rem-k : tie.Need-nonzero_rem-k
 rem-k c = let s = seasonal-at c in omega arith
@@ -47,7 +46,7 @@ returns-2 : tie.Need-returns
 unfolding season_at
 returns-2 c =
     let s = c.before.before.before in
-    rw (back w64 _ c.result-1.given, seasonal c.before) (refl, s.requires.0.bounded.cells _ (index_in c.before))
+    rw (back w64 _ c.result-1.given, seasonal c.before) record { value = refl; bound = s.requires.0.bounded.cells _ (index_in c.before) }
 
 pub season_at_spec : {M : Type 1} → statement M
 season_at_spec =

@@ -53,7 +53,7 @@ returns c =
     let at = c.before in
     let s = at.before in
     let n : at.loop-j.j ≡ s.args.h = omega arith in
-    rw (at.loop-j.invariant.2, n, to_z-of_z s.ranges.level, to_z-of_z s.ranges.trend) (refl, line-bound _ _ _ _ s.requires.0 s.requires.1 s.requires.2 s.args.h s.requires.3)
+    rw (at.loop-j.invariant.2, n, to_z-of_z s.ranges.level, to_z-of_z s.ranges.trend) record { value = refl; bound = line-bound _ _ _ _ s.requires.0 s.requires.1 s.requires.2 s.args.h s.requires.3 }
 
 pub trend_line_spec : {M : Type 1} → statement M
 trend_line_spec =

@@ -12,27 +12,24 @@ use Rattle.lines.proofs.fields.number_length.Goals as goal
 
 pub returns-in-Unsigned : goal.returns-in-Unsigned
 returns-in-Unsigned c =
-    let x = c.x-1.given in
-    (rw (x.1, length-decimal x.0.0) (omega arith), omega arith)
+    (rw (c.in-Unsigned.is, length-decimal c.in-Unsigned.n) (omega arith), omega arith)
 
 pub returns-then-z-lt0 : goal.returns-then-z-lt0
 returns-then-z-lt0 c =
-    let x = c.x-in-Signed-1.given in
-    let e = to_z-of_z w64 x.0.0 (search rules) in
-    let k : c.digit_count-k.result ≡ digit_count 19 (nat_abs x.0.0) =
+    let e = to_z-of_z w64 c.in-Signed.z (search rules) in
+    let k : c.digit_count-k.result ≡ digit_count 19 (nat_abs c.in-Signed.z) =
     c.digit_count-k.ensures.0 ∙ ap (digit_count 19) (c.magnitude.ensures ∙ ap nat_abs e) in
-    (rw (x.1, signed-negative x.0.0 (rw e at c.if-z-lt0.true), length-decimal) (omega arith), omega arith)
+    (rw (c.in-Signed.is, signed-negative c.in-Signed.z (rw e at c.if-z-lt0.true), length-decimal) (omega arith), omega arith)
 
 pub returns-else-z-lt0 : goal.returns-else-z-lt0
 returns-else-z-lt0 c =
     let x = c.x-in-Signed-1.given in
-    let e = to_z-of_z w64 x.0.0 (search rules) in
-    let k : c.digit_count-k.result ≡ digit_count 19 (nat_abs x.0.0) =
+    let e = to_z-of_z w64 c.in-Signed.z (search rules) in
+    let k : c.digit_count-k.result ≡ digit_count 19 (nat_abs c.in-Signed.z) =
     c.digit_count-k.ensures.0 ∙ ap (digit_count 19) (c.magnitude.ensures ∙ ap nat_abs e) in
-    (rw (x.1, signed-nonnegative x.0.0 (rw e at c.if-z-lt0.false), length-decimal) (omega arith), omega arith)
+    (rw (c.in-Signed.is, signed-nonnegative c.in-Signed.z (rw e at c.if-z-lt0.false), length-decimal) (omega arith), omega arith)
 
 pub returns-in-Hexadecimal : goal.returns-in-Hexadecimal
 returns-in-Hexadecimal c =
-    let x = c.x-in-Hexadecimal-1.given in
     let f = c.front-shown.ensures in
-    (rw (x.1, length-hexadecimal) (omega (arith, ap length f.0)), omega arith)
+    (rw (c.in-Hexadecimal.is, length-hexadecimal) (omega (arith, ap length f.0)), omega arith)

@@ -41,8 +41,7 @@ returns-in-Unsigned c = rw c.in-Unsigned.is (put_then c.put_byte-next.ensures c.
 
 pub returns-in-Signed : goal.returns-in-Signed
 returns-in-Signed c =
-    let x = c.x-in-Signed-1.given in
-    rw x.1 (put_then c.put_byte-next-in-Signed.ensures (rw (to_z-of_z w64 x.0.0 (search rules)) at c.put_signed.ensures))
+    rw c.in-Signed.is (put_then c.put_byte-next-in-Signed.ensures (rw (to_z-of_z w64 c.in-Signed.z (search rules)) at c.put_signed.ensures))
 
 pub returns-in-Hexadecimal : goal.returns-in-Hexadecimal
 returns-in-Hexadecimal c = rw c.in-Hexadecimal.is (put_then c.put_byte-next-in-Hexadecimal.ensures (rw c.front.ensures.0 at c.put_hexadecimal.ensures))

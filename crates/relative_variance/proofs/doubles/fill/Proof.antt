@@ -73,7 +73,7 @@ returns c =
     let at = c.before in
     let s = at.before.before.before.before in
     let n : at.loop-i.i ≡ s.args.h = omega arith in
-    (at.loop-i.invariant.3 ∙ rw n, rw n at at.loop-i.invariant.2 ∙ rw (drop-set-lt s.args.h s.args.own.now 0 at.before.before.square-first.result s.requires.0))
+    record { answer = at.loop-i.invariant.3 ∙ rw n; own = rw n at at.loop-i.invariant.2 ∙ rw (drop-set-lt s.args.h s.args.own.now 0 at.before.before.square-first.result s.requires.0) }
 
 pub fill_spec : {M : Type 1} → statement M
 fill_spec =

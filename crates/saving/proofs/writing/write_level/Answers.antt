@@ -21,5 +21,5 @@ returns c =
     let T = signed_bytes s.args.trend in
     let l = rw (to_z-of_z w64 s.args.level s.ranges.level) at v.write_i64.ensures in
     let b = rw (to_z-of_z w64 s.args.trend s.ranges.trend) at u.write_i64-2.ensures in
-    follow s.args.d.now level_at (0x11 ∷ []) (L ++ T) w.write_byte.new.0 u.write_i64-2.new.0 (level_at + 1) w.write_byte.ensures
-    (follow w.write_byte.new.0 (level_at + 1) L T v.write_i64.new.0 u.write_i64-2.new.0 (level_at + 9) l b (rw (length-to_bytes 8 (of_z w64 s.args.level)))) refl
+    follow s.args.d.now level_at (0x11 ∷ []) (L ++ T) w.write_byte.new.d u.write_i64-2.new.d (level_at + 1) w.write_byte.ensures
+    (follow w.write_byte.new.d (level_at + 1) L T v.write_i64.new.d u.write_i64-2.new.d (level_at + 9) l b (rw (length-to_bytes 8 (of_z w64 s.args.level)))) refl

@@ -18,8 +18,8 @@ returns c =
     let R = to_bytes 8 s.s.readings in
     let H = to_bytes 8 s.s.high in
     let L = to_bytes 8 s.s.low in
-    let end = w.write_le-3.new.0 in
-    follow s.d.now score_at (0x15 ∷ []) (R ++ (H ++ L)) b.write_byte.new.0 end (score_at + 1) b.write_byte.ensures
-    (follow b.write_byte.new.0 (score_at + 1) R (H ++ L) r.write_le.new.0 end (score_at + 9) r.write_le.ensures
-    (follow r.write_le.new.0 (score_at + 9) H L h.write_le-2.new.0 end (score_at + 17) h.write_le-2.ensures w.write_le-3.ensures (rw (length-to_bytes 8 s.s.high)))
+    let end = w.write_le-3.new.d in
+    follow s.d.now score_at (0x15 ∷ []) (R ++ (H ++ L)) b.write_byte.new.d end (score_at + 1) b.write_byte.ensures
+    (follow b.write_byte.new.d (score_at + 1) R (H ++ L) r.write_le.new.d end (score_at + 9) r.write_le.ensures
+    (follow r.write_le.new.d (score_at + 9) H L h.write_le-2.new.d end (score_at + 17) h.write_le-2.ensures w.write_le-3.ensures (rw (length-to_bytes 8 s.s.high)))
     (rw (length-to_bytes 8 s.s.readings))) refl

@@ -26,11 +26,11 @@ returns c =
     let C = score_bytes s.score in
     let X = seasons_bytes s.seasonal s.period in
     let Y = position_bytes s.index s.count in
-    let end = p.write_position.new.0 in
+    let end = p.write_position.new.d in
     let v = rw (back w64 s.level t.1.1.1.1.1.1.1.0.1, back w64 s.trend t.1.1.1.1.1.1.1.1.0.1) at l.write_level.ensures in
-    follow a.d.now model_at (model_bytes s.outside s.model s.period s.alpha s.beta s.gamma s.phi) (L ++ (C ++ (X ++ Y))) m.write_model.new.0 end level_at m.write_model.ensures
-    (follow m.write_model.new.0 level_at L (C ++ (X ++ Y)) l.write_level.new.0 end score_at v
-    (follow l.write_level.new.0 score_at C (X ++ Y) q.write_score.new.0 end (season_at true 0) q.write_score.ensures
-    (follow q.write_score.new.0 (season_at true 0) X Y x.write_seasons.new.0 end (season_at true s.period) x.write_seasons.ensures p.write_position.ensures (ap (λ (n : ℕ). season_at true 0 + n) (length-seasons s.seasonal s.period)))
+    follow a.d.now model_at (model_bytes s.outside s.model s.period s.alpha s.beta s.gamma s.phi) (L ++ (C ++ (X ++ Y))) m.write_model.new.d end level_at m.write_model.ensures
+    (follow m.write_model.new.d level_at L (C ++ (X ++ Y)) l.write_level.new.d end score_at v
+    (follow l.write_level.new.d score_at C (X ++ Y) q.write_score.new.d end (season_at true 0) q.write_score.ensures
+    (follow q.write_score.new.d (season_at true 0) X Y x.write_seasons.new.d end (season_at true s.period) x.write_seasons.ensures p.write_position.ensures (ap (λ (n : ℕ). season_at true 0 + n) (length-seasons s.seasonal s.period)))
     (rw (length-score s.score)))
     (rw (length-level s.level s.trend))) (rw (length-model s.outside s.model s.period s.alpha s.beta s.gamma s.phi))

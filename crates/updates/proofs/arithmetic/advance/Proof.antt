@@ -18,10 +18,10 @@ module _ (s : tie.Start) where
   level_is = within-back w64 s.requires.level (omega arith)
 
   trend_is : to_z w64 (of_z w64 s.args.n.trend) ≡ s.args.n.trend
-  trend_is = within-back w64 s.pre.trend (omega arith)
+  trend_is = within-back w64 s.requires.trend (omega arith)
 
   level-within : Within 2199023255552 (s.args.n.level +ℤ share s.args.even s.args.n.phi s.args.n.trend)
-  level-within = within-add s.pre.level (share-within s.args.even s.pre.phi s.pre.trend)
+  level-within = within-add s.requires.level (share-within s.args.even s.requires.phi s.requires.trend)
 
 share-requires : tie.Need-share-damped-requires
 share-requires c κs = let p = c.before.requires in rw (trend_is c.before) (p.phi, within-le 8796093022208 (omega arith) p.trend)

@@ -21,29 +21,29 @@ module _ (s : tie.Start) where
   wt = within-add s.requires.0.level s.requires.0.damped
 
   wl : Within 5563094138880 (s.args.t.level +ℤ s.args.t.damped +ℤ share s.args.t.even s.args.t.alpha s.args.e)
-  wl = within-add wt (share-within s.args.t.even s.pre.0.alpha s.pre.1)
+  wl = within-add wt (share-within s.args.t.even s.requires.0.alpha s.requires.1)
 
   wb : Within 4463582511104 (s.args.t.damped +ℤ share s.args.t.even s.args.t.beta s.args.e)
-  wb = within-add s.pre.0.damped (share-within s.args.t.even s.pre.0.beta s.pre.1)
+  wb = within-add s.requires.0.damped (share-within s.args.t.even s.requires.0.beta s.requires.1)
 
   ws : Within 4463582511104 (s.args.t.season +ℤ share s.args.t.even s.args.t.gamma s.args.e)
-  ws = within-add s.pre.0.season (share-within s.args.t.even s.pre.0.gamma s.pre.1)
+  ws = within-add s.requires.0.season (share-within s.args.t.even s.requires.0.gamma s.requires.1)
 
   lb : to_z w64 (of_z w64 s.args.t.level) ≡ s.args.t.level
-  lb = within-back w64 s.pre.0.level (omega arith)
+  lb = within-back w64 s.requires.0.level (omega arith)
 
   db : to_z w64 (of_z w64 s.args.t.damped) ≡ s.args.t.damped
-  db = within-back w64 s.pre.0.damped (omega arith)
+  db = within-back w64 s.requires.0.damped (omega arith)
 
   sb : to_z w64 (of_z w64 s.args.t.season) ≡ s.args.t.season
-  sb = within-back w64 s.pre.0.season (omega arith)
+  sb = within-back w64 s.requires.0.season (omega arith)
 
   eb : to_z w64 (of_z w64 s.args.e) ≡ s.args.e
-  eb = within-back w64 s.pre.1 (omega arith)
+  eb = within-back w64 s.requires.1 (omega arith)
 
   -- a call of `share` with e, and its result
   asked : (g : ℕ) → g ≤ 65536 → (g ≤ 65536) × Within 8796093022208 (to_z w64 (of_z w64 s.args.e))
-  asked g h = (h, rw eb (within-le 8796093022208 (omega arith) s.pre.1))
+  asked g h = (h, rw eb (within-le 8796093022208 (omega arith) s.requires.1))
 
   gb : (g : ℕ) (r : ℤ) → mag r < 2 ^ 63 → r ≡ share s.args.t.even g (to_z w64 (of_z w64 s.args.e)) → to_z w64 (of_z w64 r) ≡ share s.args.t.even g s.args.e
   gb g r f e = back w64 r f ∙ e ∙ rw eb

@@ -17,25 +17,25 @@ module _ (s : tie.Start) where
   wt = within-add s.requires.0.level s.requires.0.damped
 
   wq : Within 3298534883328 (s.args.t.level +ℤ s.args.t.damped +ℤ s.args.t.season)
-  wq = within-add wt s.pre.0.season
+  wq = within-add wt s.requires.0.season
 
   wm : Within 65536000000 (pos 65536 *ℤ s.args.y)
-  wm = within-mul (le_refl 65536) s.pre.1
+  wm = within-mul (le_refl 65536) s.requires.1
 
   we : Within 3364070883328 (pos 65536 *ℤ s.args.y -ℤ (s.args.t.level +ℤ s.args.t.damped +ℤ s.args.t.season))
   we = within-sub wm wq
 
   lb : to_z w64 (of_z w64 s.args.t.level) ≡ s.args.t.level
-  lb = within-back w64 s.pre.0.level (omega arith)
+  lb = within-back w64 s.requires.0.level (omega arith)
 
   db : to_z w64 (of_z w64 s.args.t.damped) ≡ s.args.t.damped
-  db = within-back w64 s.pre.0.damped (omega arith)
+  db = within-back w64 s.requires.0.damped (omega arith)
 
   sb : to_z w64 (of_z w64 s.args.t.season) ≡ s.args.t.season
-  sb = within-back w64 s.pre.0.season (omega arith)
+  sb = within-back w64 s.requires.0.season (omega arith)
 
   yb : to_z w64 (of_z w64 (to_z w32 (of_z w32 s.args.y))) ≡ s.args.y
-  yb = rw (to_z-of_z w32 _ s.fits.y) (within-back w64 s.pre.1 (omega arith))
+  yb = rw (to_z-of_z w32 _ s.ranges.y) (within-back w64 s.requires.1 (omega arith))
 
 cast-result : tie.Need-overflow_cast-result
 cast-result c = rw (to_z-of_z w32 _ c.ranges.y) (within-fits w64 c.requires.1 (omega arith))
@@ -58,7 +58,7 @@ returns : tie.Need-returns
 unfolding residual
 returns c =
     let s = c.before.before.before.before in
-    rw (yb s, within-back w64 (wm s) (omega arith), lb s, db s, within-back w64 (wt s) (omega arith), sb s, within-back w64 (wq s) (omega arith), within-back w64 (we s) (omega arith)) (refl, we s)
+    rw (yb s, within-back w64 (wm s) (omega arith), lb s, db s, within-back w64 (wt s) (omega arith), sb s, within-back w64 (wq s) (omega arith), within-back w64 (we s) (omega arith)) record { value = refl; bound = we s }
 
 pub residual_spec : {M : Type 1} → statement M
 residual_spec =

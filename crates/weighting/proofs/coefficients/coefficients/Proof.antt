@@ -16,7 +16,7 @@ code c = rw (c.first-n.ensures, c.before.forecast_code.ensures, c.before.before.
 
 returns : tie.Need-returns-then-n-ne0
 unfolding coefficients coefficient_cells
-returns c = rw (← (code c.before), ne_eqb _ _ c.if-n-ne0.true) (refl, refl)
+returns c = rw (← (code c.before), ne_eqb _ _ c.if-n-ne0.true) record { answer = refl; buffer = refl }
 
 fill-requires : tie.Need-fill-requires
 unfolding forecasts_code_to
@@ -33,7 +33,7 @@ returns-2 c =
     let f = c.before.before in
     let q = f.before.before in
     let z = sym (code q.before) ∙ q.if-n-ne0.false in
-    rw z (refl, f.fill.ensures)
+    rw z record { answer = refl; buffer = f.fill.ensures }
 
 pub coefficients_spec : {M : Type 1} → statement M
 coefficients_spec =

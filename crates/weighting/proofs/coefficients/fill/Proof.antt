@@ -80,7 +80,7 @@ fill_spec =
     (λ c κs. ((st c).requires.0.bounded.phi, omega (arith, c.before.loop-j.invariant.2.small)))
     (λ c κs. at_small (s c.before) c.before.before.loop-j.invariant.2)
     (λ c. search rules)
-    (λ c κs. ((st c.before.before).pre.0, at-next-j c))
+    (λ c κs. ((st c.before.before).requires.0, at-next-j c))
     (λ c. search rules)
     (λ c. search rules)
     (λ c. let f = c.before.before.before in omega (arith, (st f).requires.2, f.before.loop-j.invariant.3))

@@ -28,7 +28,7 @@ invariant-loop s h cells₀ even trend m p₀ k₀ j₀ cells p k j =
 abbrev decreases-loop : tie.decreases-loop-j
 decreases-loop s h cells₀ even trend m p₀ k₀ j₀ cells p k j = h - j
 
-cleared_at : (c : tie.After-slice_known-2-1 invariant-loop decreases-loop) → let at = c.before.before in Cleared at.before.before.before.before.before.before.args.s at.before.before.before.before.before.before.args.cells.now at.clear.new.1.0
+cleared_at : (c : tie.After-slice_known-2-1 invariant-loop decreases-loop) → let at = c.before.before in Cleared at.before.before.before.before.before.before.args.s at.before.before.before.before.before.before.args.cells.now at.clear.new.cells.0
 cleared_at c =
     let at = c.before.before in
     let start = at.before.before.before.before.before.before in
@@ -77,13 +77,13 @@ module _ (c : tie.After-coefficient-c invariant-loop decreases-loop) where
   r_small = at_small (s f) (at_j c.before)
 
   r-in : r < group_count (s f)
-  r-in = omega (arith, r-is, mod-lt (j f) {m = group_count (s f)} (count-least (s f) (st f).pre.0))
+  r-in = omega (arith, r-is, mod-lt (j f) {m = group_count (s f)} (count-least (s f) (st f).requires.0))
 
   inside : r < length f.before.loop-j.cells
-  inside = omega (arith, r-in, f.before.loop-j.inv.5, (cleared_at f.before.before).same, (st f).pre.3)
+  inside = omega (arith, r-in, f.before.loop-j.invariant.5, (cleared_at f.before.before).same, (st f).requires.3)
 
   sum-small : get_or f.before.loop-j.cells r 0 + square ≤ 1134713179734016 * (j f + 1)
-  sum-small = omega (arith, cell-most (s f) (j f - 1) _ f.before.loop-j.inv.6 r-in, f.before.loop-j.inv.4, square-small)
+  sum-small = omega (arith, cell-most (s f) (j f - 1) _ f.before.loop-j.invariant.6 r-in, f.before.loop-j.invariant.4, square-small)
 
 loop-holds : tie.Need-loop-j-init invariant-loop decreases-loop
 unfolding squares
@@ -125,7 +125,7 @@ add_squares_spec =
     loop-holds
     (λ c κs. ((st c).requires.0.bounded.phi, omega (arith, c.before.loop-j.invariant.3.small)))
     (λ c κs. at_small (s c.before) c.before.before.loop-j.invariant.3)
-    (λ c κs. ((st c.before.before).pre.0, at_j c))
+    (λ c κs. ((st c.before.before).requires.0, at_j c))
     (λ c. search rules)
     (λ c. omega (arith, r_small c))
     (λ c. inside c.before)

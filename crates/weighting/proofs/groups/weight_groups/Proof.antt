@@ -17,7 +17,7 @@ code c =
 
 returns : tie.Need-returns-then-n-ne0
 unfolding weight_groups weight_group_cells
-returns c = rw (← (code c.before), ne_eqb _ _ c.if-n-ne0.true) (refl, refl)
+returns c = rw (← (code c.before), ne_eqb _ _ c.if-n-ne0.true) record { answer = refl; buffer = refl }
 
 add-squares-requires : tie.Need-add_squares-requires
 unfolding weight_groups_code
@@ -34,7 +34,7 @@ returns-2 c =
     let f = c.before.before in
     let q = f.before.before in
     let z = sym (code q.before) ∙ q.if-n-ne0.false in
-    rw z (refl, f.add_squares.ensures)
+    rw z record { answer = refl; buffer = f.add_squares.ensures }
 
 pub weight_groups_spec : {M : Type 1} → statement M
 weight_groups_spec =
