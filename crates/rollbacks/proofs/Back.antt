@@ -1,7 +1,7 @@
 -- Document 02, W-209: what follows 51 is answered as if all since 50 had never come.
 use Prim.Native.Nat.{ℕ, ◌+◌, ◌≤◌, ◌<◌}
 use mathlib.Core.Path.{◌≡◌, refl, sym, ap, ◌∙◌, subst}
-use mathlib.Core.Bool.{true, false}
+use mathlib.Core.Bool.{Bool, true, false}
 use mathlib.Core.List.{List, ◌∷◌, ◌++◌}
 use native.Mathlib.Omega.{arith}
 use lib.ListN.{length, length-append, take, drop}
@@ -31,14 +31,14 @@ place x = x.session.at
 goes_on : (s : List ℕ) (x : Standing) → is_last (answer_at s x).reply ≡ false → (place x < place (after s x)) × (place (after s x) ≤ length s)
 goes_on s x e = (next-goes s x.session x.checkpoints).moves e
 
-leads-on : {Allowed : Command → Type 0} (s : List ℕ) {x y : Standing} {ps : List Performed} → Leads Allowed s x ps y → place x ≤ place y
+leads-on : {allowed : Command → Bool} (s : List ℕ) {x y : Standing} {ps : List Performed} → Leads allowed s x ps y → place x ≤ place y
 leads-on s none = omega arith
 leads-on s (more {x} a e l) = omega (arith, (goes_on s x e).0, leads-on s l)
 
 one_more : (s : List ℕ) (x : Standing) → is_last (answer_at s x).reply ≡ false → answers_at s x ≡ answer_at s x ∷ answers_at s (after s x)
 one_more s x e = command-by-command s x.session x.checkpoints ∙ rw e
 
-answers-lead : {Allowed : Command → Type 0} (s : List ℕ) {x y : Standing} {ps : List Performed} → Leads Allowed s x ps y → answers_at s x ≡ ps ++ answers_at s y
+answers-lead : {allowed : Command → Bool} (s : List ℕ) {x y : Standing} {ps : List Performed} → Leads allowed s x ps y → answers_at s x ≡ ps ++ answers_at s y
 answers-lead s none = refl
 answers-lead s (more {x} a e l) = one_more s x e ∙ ap (λ (ps : List Performed). answer_at s x ∷ ps) (answers-lead s l)
 
@@ -55,14 +55,14 @@ module _ (s t : List ℕ) (bytes : AreBytes s) (m : ℕ) (same : take m s ≡ ta
     unfolding perform_checkpoints
     same_after = rw (same_answer, same-command)
 
-  same-leads : {Allowed : Command → Type 0} {x y : Standing} {ps : List Performed} → Leads Allowed s x ps y → place y ≤ m → Leads Allowed t x ps y
+  same-leads : {allowed : Command → Bool} {x y : Standing} {ps : List Performed} → Leads allowed s x ps y → place y ≤ m → Leads allowed t x ps y
   same-leads none h = none
-  same-leads {Allowed} (more {x} {y} {ps} a e l) h =
+  same-leads {allowed} (more {x} {y} {ps} a e l) h =
       let k : place (after s x) ≤ m = omega (arith, leads-on s l) in
       rw (← (same_answer x e k))
-      (more {x = x} {y = y} {ps = ps} (subst (λ (d : Decoded). Allowed d.command) (sym (same-command x e k)) a)
+      (more {x = x} {y = y} {ps = ps} (ap (λ (d : Decoded). allowed d.command) (same-command x e k) ∙ a)
       (ap (λ (p : Performed). is_last p.reply) (same_answer x e k) ∙ e)
-      (subst (λ (z : Standing). Leads Allowed t z ps y) (sym (same_after x e k)) (same-leads l h)))
+      (subst (λ (z : Standing). Leads allowed t z ps y) (sym (same_after x e k)) (same-leads l h)))
 
 -- ---- a state kept and brought back
 module _ (s : List ℕ) (slot : ℕ) (bytes : AreBytes s) (r : KeptAndBack s slot) where

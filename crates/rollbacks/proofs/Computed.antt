@@ -1,7 +1,5 @@
 -- The pins, computed.
-use Prim.Native.Nat.{ℕ}
-use mathlib.Core.Path.{◌≡◌, refl}
-use native.Mathlib.Omega.{arith}
+use mathlib.Core.Path.{refl}
 use mathlib.Core.List.{[], ◌∷◌}
 use Rattle.state.specs.Fixed.{R, share}
 use Rattle.integers.specs.Below.{all_below}
@@ -32,12 +30,12 @@ situation =
     record {
       earlier = answer_at s begins ∷ answer_at s a ∷ [];
       here = b;
-      reached = more {x = begins} tt refl (more {x = a} tt refl none);
+      reached = more {x = begins} refl refl (more {x = a} refl refl none);
       keeps = refl;
       accepted = refl;
       between = answer_at s c ∷ answer_at s d ∷ [];
       there = after s d;
-      gone = more {x = c} (λ slot q. let z : ◌≡◌ {A = ℕ} 0 1 = cc in omega arith) refl (more {x = d} (λ slot q. let z : ◌≡◌ {A = ℕ} 0 1 = cc in omega arith) refl none);
+      gone = more {x = c} refl refl (more {x = d} refl refl none);
       back = refl;
     }
 

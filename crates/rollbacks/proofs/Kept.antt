@@ -1,7 +1,7 @@
 -- What 50 leaves, what the commands after it leave of that, and what 51 brings back.
 use Prim.Native.Nat.{ℕ, zero, suc}
 use mathlib.Core.Path.{◌≡◌, refl, sym, ap, ◌∙◌}
-use mathlib.Core.Bool.{true, false, true≢false}
+use mathlib.Core.Bool.{Bool, true, false, true≢false, false≢true}
 use mathlib.Core.List.{List}
 use native.Mathlib.Omega.{arith}
 use borrow.Author.Tests.{eqb-true}
@@ -31,7 +31,7 @@ use Rattle.commands.specs.declared.Performed.{Performed}
 use Rattle.commands.proofs.CommandLaws.{performs, keeps}
 use Rattle.streams.proofs.StreamLaws.{start-sound, later-sound, active-is}
 use Rattle.streams.proofs.SessionLaws.{kept}
-use Rattle.rollbacks.specs.Rollbacks.{Standing, begins, command_at, answer_at, after, Leads, none, more, NotStore}
+use Rattle.rollbacks.specs.Rollbacks.{Standing, begins, command_at, answer_at, after, Leads, none, more, is_store, not_store}
 
 -- ---- what stands passes its checks, and what the names hold
 pub record Fit (x : Standing) : Type 0 where
@@ -51,12 +51,12 @@ after-fit s b x f =
       holding = kept s x.session x.checkpoints f.holding f.sound;
     }
 
-pub leads-fit : {Allowed : Command → Type 0} (s : List ℕ) → AreBytes s → {x y : Standing} {ps : List Performed} → Leads Allowed s x ps y → Fit x → Fit y
+pub leads-fit : {allowed : Command → Bool} (s : List ℕ) → AreBytes s → {x y : Standing} {ps : List Performed} → Leads allowed s x ps y → Fit x → Fit y
 leads-fit s b none f = f
 leads-fit s b (more {x} a e l) f = leads-fit s b l (after-fit s b x f)
 
 -- ---- a command that is no 50 leaves what the names hold
-only_store : (x : Session) (cs : List ℕ) (c : Command) → NotStore c → checkpointed x cs c ≡ cs
+only_store : (x : Session) (cs : List ℕ) (c : Command) → not_store c ≡ true → checkpointed x cs c ≡ cs
 only_store x cs CommandOf.End e = refl
 only_store x cs CommandOf.Open e = refl
 only_store x cs (CommandOf.Reading y) e = refl
@@ -67,10 +67,10 @@ only_store x cs CommandOf.Save e = refl
 only_store x cs (CommandOf.Rejected code) e = refl
 only_store x cs CommandOf.SwitchToEven e = refl
 only_store x cs (CommandOf.RelativeVariance h sigma2) e = refl
-only_store x cs (CommandOf.Store slot) e = absurd (e slot refl)
+only_store x cs (CommandOf.Store slot) e = absurd (false≢true e)
 only_store x cs (CommandOf.Restore slot) e = refl
 
-pub gone-keeps : (s : List ℕ) {x y : Standing} {ps : List Performed} → Leads NotStore s x ps y → y.checkpoints ≡ x.checkpoints
+pub gone-keeps : (s : List ℕ) {x y : Standing} {ps : List Performed} → Leads not_store s x ps y → y.checkpoints ≡ x.checkpoints
 unfolding perform_checkpoints
 gone-keeps s none = refl
 gone-keeps s (more {x} a e l) = gone-keeps s l ∙ only_store x.session x.checkpoints (command_at s x) a
@@ -83,18 +83,22 @@ module _ (s : List ℕ) (x : Session) (slot : ℕ) where
   abbrev Found : Decoded → Type 0
   Found d = d.command ≡ CommandOf.Store slot → x.active ≡ true
 
+  -- no other command is 50
+  other : (c : Command) → is_store c ≡ false → c ≡ CommandOf.Store slot → x.active ≡ true
+  other c e q = absurd (true≢false (sym (ap is_store q) ∙ e))
+
   operands-open : command_code s x.at x.active x.state.model ≡ 0 → operands s x.at ≡ CommandOf.Store slot → x.active ≡ true
   unfolding operands
   operands-open e =
       let w = whole-command s x.at x.active x.state.model e in
-      cond-elim (λ (c : Command). c ≡ CommandOf.Store slot → x.active ≡ true) (opens b) _ _ (λ _ q. let z : ◌≡◌ {A = ℕ} 0 1 = cc in absurd (omega arith))
+      cond-elim (λ (c : Command). c ≡ CommandOf.Store slot → x.active ≡ true) (opens b) _ _ (λ _. other CommandOf.Open refl)
       (λ q _. active-is x.active (opens b) w.due q)
 
   pub store-open : (next_command s x).command ≡ CommandOf.Store slot → x.active ≡ true
   unfolding decode
   store-open =
-      cond-elim Found (leb (length s) x.at) _ _ (λ _ q. let z : ◌≡◌ {A = ℕ} 0 1 = cc in absurd (omega arith))
-      (λ _. cond-elim Found (eqb (command_code s x.at x.active x.state.model) 0) _ _ (λ e. operands-open (eqb-true _ 0 e)) (λ _ q. let z : ◌≡◌ {A = ℕ} 0 1 = cc in absurd (omega arith)))
+      cond-elim Found (leb (length s) x.at) _ _ (λ _. other CommandOf.End refl)
+      (λ _. cond-elim Found (eqb (command_code s x.at x.active x.state.model) 0) _ _ (λ e. operands-open (eqb-true _ 0 e)) (λ _. other (CommandOf.Rejected _) refl))
 
 -- ---- 50 accepted: the state stays, and its name holds it
 module _ (s : List ℕ) (x : Standing) (slot : ℕ) (fit : Fit x) (q : command_at s x ≡ CommandOf.Store slot) (e : is_last (answer_at s x).reply ≡ false) where

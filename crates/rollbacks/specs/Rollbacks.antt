@@ -1,5 +1,5 @@
 -- Document 02, W-209: after 51, with no other 50 since its name was kept, a stream is answered as if all between had never come, X offsets and refusal 1 aside.
-use Rattle.std.specs.Prelude.{ℕ, ◌+◌, ◌-◌, ◌≡◌, false, List, [], ◌∷◌, ◌++◌, take, drop}
+use Rattle.std.specs.Prelude.{ℕ, ◌+◌, ◌-◌, ◌≡◌, Bool, true, false, not, List, [], ◌∷◌, ◌++◌, take, drop}
 use Rattle.layout.specs.Bytes.{AreBytes}
 use Rattle.checkpoints.specs.Checkpoints.{no_checkpoints}
 use Rattle.decoding.specs.declared.Command.{Command}
@@ -35,27 +35,40 @@ abbrev pub answers_at : List ℕ → Standing → List Performed
 answers_at s x = answers_from s x.session x.checkpoints
 
 -- ---- commands one after the other, each of them allowed and accepted: where they begin, their answers, and where they lead
-pub data Leads (Allowed : Command → Type 0) (s : List ℕ) : Standing → List Performed → Standing → Type 0 where
-  none : {x : Standing} → Leads Allowed s x [] x
-  more : {x y : Standing} {ps : List Performed} → Allowed (command_at s x) → is_last (answer_at s x).reply ≡ false → Leads Allowed s (after s x) ps y → Leads Allowed s x (answer_at s x ∷ ps) y
+pub data Leads (allowed : Command → Bool) (s : List ℕ) : Standing → List Performed → Standing → Type 0 where
+  none : {x : Standing} → Leads allowed s x [] x
+  more : {x y : Standing} {ps : List Performed} → allowed (command_at s x) ≡ true → is_last (answer_at s x).reply ≡ false → Leads allowed s (after s x) ps y → Leads allowed s x (answer_at s x ∷ ps) y
 
--- any command; and any that is not 50, of whatever name
-abbrev pub AnyCommand : Command → Type 0
-AnyCommand c = Unit {0}
+abbrev pub is_store : Command → Bool
+is_store CommandOf.End = false
+is_store CommandOf.Open = false
+is_store (CommandOf.Reading y) = false
+is_store CommandOf.Missing = false
+is_store (CommandOf.Forecast h) = false
+is_store (CommandOf.Variance h sigma2) = false
+is_store CommandOf.Save = false
+is_store (CommandOf.Rejected code) = false
+is_store CommandOf.SwitchToEven = false
+is_store (CommandOf.RelativeVariance h sigma2) = false
+is_store (CommandOf.Store slot) = true
+is_store (CommandOf.Restore slot) = false
 
-abbrev pub NotStore : Command → Type 0
-NotStore c = (slot : ℕ) → c ≡ CommandOf.Store slot → ⊥
+abbrev pub any_command : Command → Bool
+any_command c = true
+
+abbrev pub not_store : Command → Bool
+not_store c = not (is_store c)
 
 -- a stream in which 50 is accepted, then come commands that are accepted and hold no other 50, then 51 of the same name
 pub record KeptAndBack (s : List ℕ) (slot : ℕ) : Type 0 where
   pub earlier : List Performed
   pub here : Standing
-  pub reached : Leads AnyCommand s begins earlier here
+  pub reached : Leads any_command s begins earlier here
   pub keeps : command_at s here ≡ CommandOf.Store slot
   pub accepted : is_last (answer_at s here).reply ≡ false
   pub between : List Performed
   pub there : Standing
-  pub gone : Leads NotStore s (after s here) between there
+  pub gone : Leads not_store s (after s here) between there
   pub back : command_at s there ≡ CommandOf.Restore slot
 
 -- ---- the answers of a stream, n bytes later: the offset that X tells, and where the session stands
