@@ -6,7 +6,6 @@ ghost use Rattle.in_place.specs.InPlace.{in_place_step_code, in_place_step_bytes
 
 use in_place::{forecast, missing, step, switch_to_even};
 
-#[unsafe(no_mangle)]
 pub extern "C" fn forecaster_step(snapshot: &mut [u8], reading: i32, residual: &mut i64) -> u8
     ensures code { result ≡ in_place_step_code snapshot.old reading }
     ensures bytes { snapshot.new ≡ in_place_step_bytes snapshot.old reading }
@@ -15,7 +14,6 @@ pub extern "C" fn forecaster_step(snapshot: &mut [u8], reading: i32, residual: &
     step(snapshot, reading, residual)
 }
 
-#[unsafe(no_mangle)]
 pub extern "C" fn forecaster_missing(snapshot: &mut [u8]) -> u8
     ensures code { result ≡ in_place_missing_code snapshot.old }
     ensures bytes { snapshot.new ≡ in_place_missing_bytes snapshot.old }
@@ -23,7 +21,6 @@ pub extern "C" fn forecaster_missing(snapshot: &mut [u8]) -> u8
     missing(snapshot)
 }
 
-#[unsafe(no_mangle)]
 pub extern "C" fn forecaster_switch_to_even(snapshot: &mut [u8]) -> u8
     ensures code { result ≡ in_place_switch_code snapshot.old }
     ensures bytes { snapshot.new ≡ in_place_switch_bytes snapshot.old }
@@ -31,7 +28,6 @@ pub extern "C" fn forecaster_switch_to_even(snapshot: &mut [u8]) -> u8
     switch_to_even(snapshot)
 }
 
-#[unsafe(no_mangle)]
 pub extern "C" fn forecaster_forecast(snapshot: &[u8], horizon: u32, value: &mut i64) -> u8
     ensures code { result ≡ in_place_forecast_code snapshot.now horizon }
     ensures number { value.new ≡ in_place_forecast snapshot.now horizon value.old }

@@ -8,14 +8,14 @@ ghost use Rattle.streams.specs.Stream.{answers_from, answers, last_reply};
 
 use checkpoints::CHECKPOINTS_SIZE;
 use commands::start;
-use libc::STDOUT_FILENO;
 use lines::{Line, write_line};
 use replies::{Reply, is_last};
 use state::Outcome;
+use std::io::{Stdout, Write};
 use streams::{MAX_LINE, admit, write_next};
 
 // Writes a line where all before it were written, and answers whether this one was too: what arrives is always a beginning of the whole text.
-fn show(whole: bool, line: Line, buffer: &[u8]) -> bool {
+fn show(out: &mut Stdout, whole: bool, line: Line, buffer: &[u8]) -> bool {
     if !whole {
         return false;
     }
@@ -24,25 +24,25 @@ fn show(whole: bool, line: Line, buffer: &[u8]) -> bool {
             if buffer.len() < n {
                 return false;
             }
-            io::write_all(STDOUT_FILENO, &buffer[..n])
+            out.write_all(&buffer[..n]).is_ok()
         }
         Line::Rejected(_) => false,
     }
 }
 
 // The only line of a stream that is not taken.
-fn reject_stream(code: u8) -> Reply
+fn reject_stream(out: &mut Stdout, code: u8) -> Reply
     ensures { result ≡ Reply.Rejected code 0 }
 {
     let reply = Reply::Rejected { code, offset: 0 };
     let mut buffer = [0u8; MAX_LINE];
     let line = write_line(reply, b"", &mut buffer);
-    show(true, line, &buffer);
+    show(out, true, line, &buffer);
     reply
 }
 
 // Performs the commands of a stream one after the other, up to its last answer, and writes each one's line. The states kept are lent to each command, and copied by none.
-fn play_commands(s: &[u8]) -> Reply
+fn play_commands(out: &mut Stdout, s: &[u8]) -> Reply
     ensures { result ≡ last_reply (answers_from s.now start no_checkpoints) }
 {
     let mut x = start();
@@ -55,7 +55,7 @@ fn play_commands(s: &[u8]) -> Reply
         let line = found.line;
         let reply = performed.reply;
         x = performed.session;
-        whole = show(whole, line, &buffer);
+        whole = show(out, whole, line, &buffer);
         if is_last(reply) {
             return reply;
         }
@@ -63,12 +63,12 @@ fn play_commands(s: &[u8]) -> Reply
 }
 
 // A stream's lines on standard output, and its last answer.
-pub fn play(s: &[u8]) -> Reply
+pub fn play(out: &mut Stdout, s: &[u8]) -> Reply
     ensures { result ≡ last_reply (answers s.now) }
 {
     let admitted = admit(s);
     match admitted {
-        Outcome::Accepted => play_commands(s),
-        Outcome::Rejected(code) => reject_stream(code),
+        Outcome::Accepted => play_commands(out, s),
+        Outcome::Rejected(code) => reject_stream(out, code),
     }
 }
