@@ -6,7 +6,7 @@ ghost use Rattle.in_place.specs.InPlace.{in_place_step_code, in_place_step_bytes
 
 use in_place::{forecast, missing, step, switch_to_even};
 
-pub extern "C" fn forecaster_step(snapshot: &mut [u8], reading: i32, residual: &mut i64) -> u8
+pub fn forecaster_step(snapshot: &mut [u8], reading: i32, residual: &mut i64) -> u8
     ensures code { result ≡ in_place_step_code snapshot.old reading }
     ensures bytes { snapshot.new ≡ in_place_step_bytes snapshot.old reading }
     ensures number { residual.new ≡ in_place_residual snapshot.old reading residual.old }
@@ -14,21 +14,21 @@ pub extern "C" fn forecaster_step(snapshot: &mut [u8], reading: i32, residual: &
     step(snapshot, reading, residual)
 }
 
-pub extern "C" fn forecaster_missing(snapshot: &mut [u8]) -> u8
+pub fn forecaster_missing(snapshot: &mut [u8]) -> u8
     ensures code { result ≡ in_place_missing_code snapshot.old }
     ensures bytes { snapshot.new ≡ in_place_missing_bytes snapshot.old }
 {
     missing(snapshot)
 }
 
-pub extern "C" fn forecaster_switch_to_even(snapshot: &mut [u8]) -> u8
+pub fn forecaster_switch_to_even(snapshot: &mut [u8]) -> u8
     ensures code { result ≡ in_place_switch_code snapshot.old }
     ensures bytes { snapshot.new ≡ in_place_switch_bytes snapshot.old }
 {
     switch_to_even(snapshot)
 }
 
-pub extern "C" fn forecaster_forecast(snapshot: &[u8], horizon: u32, value: &mut i64) -> u8
+pub fn forecaster_forecast(snapshot: &[u8], horizon: u32, value: &mut i64) -> u8
     ensures code { result ≡ in_place_forecast_code snapshot.now horizon }
     ensures number { value.new ≡ in_place_forecast snapshot.now horizon value.old }
 {
