@@ -21,7 +21,7 @@ computed : (c : tie.After-corrections-u) → let s = c.before.before.before.befo
 computed c =
     let r = c.before in
     let s = r.before.before.before.before in
-    rw (back w64 r.residual.result r.residual.type_inv, r.residual.ensures.value, r.before.terms_at-t.ensures, to_z-of_z s.ranges.y) at c.corrections-u.ensures
+    rw (back w64 r.residual.result r.residual.type_inv, r.residual.ensures.0, r.before.terms_at-t.ensures, to_z-of_z s.ranges.y) at c.corrections-u.ensures
 
 returns : tie.Need-returns-then-code-ne0
 unfolding reading_update
@@ -38,7 +38,7 @@ residual-requires c κs =
 corrections-requires : tie.Need-corrections-u-requires
 corrections-requires c κs =
     let e = c.before.before in
-    rw (back w64 c.residual.result c.residual.type_inv) (rw c.before.terms_at-t.ensures (terms-in e.before.before.args.even e.before.before.requires), c.residual.ensures.bound)
+    rw (back w64 c.residual.result c.residual.type_inv) (rw c.before.terms_at-t.ensures (terms-in e.before.before.args.even e.before.before.requires), c.residual.ensures.1)
 
 returns-2 : tie.Need-returns-then-stays
 unfolding reading_update corrections

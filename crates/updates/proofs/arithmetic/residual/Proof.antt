@@ -58,7 +58,7 @@ returns : tie.Need-returns
 unfolding residual
 returns c =
     let s = c.before.before.before.before in
-    rw (yb s, within-back w64 (wm s) (omega arith), lb s, db s, within-back w64 (wt s) (omega arith), sb s, within-back w64 (wq s) (omega arith), within-back w64 (we s) (omega arith)) record { value = refl; bound = we s }
+    rw (yb s, within-back w64 (wm s) (omega arith), lb s, db s, within-back w64 (wt s) (omega arith), sb s, within-back w64 (wq s) (omega arith), within-back w64 (we s) (omega arith)) (refl, we s)
 
 pub residual_spec : {M : Type 1} → statement M
 residual_spec =

@@ -39,7 +39,7 @@ cast-result : tie.Need-overflow_cast-result
 cast-result c = rw (product c, again c) (tt, record { fits = omega (arith, small c) })
 
 returns : tie.Need-returns
-returns c = rw (product c, again c) record { value = refl; bound = small c }
+returns c = rw (product c, again c) (refl, small c)
 
 pub square_spec : {M : Type 1} → statement M
 square_spec =

@@ -21,7 +21,7 @@ facts c = valid _ (passes c)
 
 -- what was read is the update of the state
 numbers-are : (c : tie.After-missing_update-u) → let s = c.before.before.before.before.before.args.s in c.missing_update-u.result ≡ missing_update (ties_to_even s.model) (numbers_of s)
-numbers-are c = rw (c.before.Numbers-of.ensures, c.before.before.ties_to_even.ensures) at c.missing_update-u.ensures
+numbers-are c = rw (c.before.numbers_of.ensures, c.before.before.ties_to_even.ensures) at c.missing_update-u.ensures
 
 code_is : (c : tie.After-missing_update-u) → c.missing_update-u.result.code ≡ missing_code c.before.before.before.before.before.args.s
 code_is c = ap (λ (u : Update). u.code) (numbers-are c) ∙ missed-code _ (passes c.before.before.before)
@@ -40,7 +40,7 @@ numbers-of-requires c κs = (facts c.before).bounded.index
 missing-update-requires : tie.Need-missing_update-u-requires
 missing-update-requires c κs =
     let b = (facts c.before.before).bounded in
-    rw c.Numbers-of.ensures (record { phi = b.phi; level = b.level; trend = b.trend })
+    rw c.numbers_of.ensures (record { phi = b.phi; level = b.level; trend = b.trend })
 
 returns-2 : tie.Need-returns-then-k-ne0
 returns-2 c =
@@ -50,14 +50,14 @@ returns-2 c =
 
 store-requires : tie.Need-store-requires
 store-requires c κs =
-    let r = c.before in
+    let r = c.before.before in
     ((facts r.before.before.before).bounded.index, (missing-facts _ (sym (code_is r) ∙ c.if-k-ne0.false)).room)
 
 returns-3 : tie.Need-returns
 returns-3 c =
-    let r = c.before.before in
+    let r = c.before.before.before in
     let s = r.before.before.before.before.before.args.s in
-    let z = sym (code_is r) ∙ c.before.if-k-ne0.false in
+    let z = sym (code_is r) ∙ c.if-k-ne0.false in
     let n = numbers-are r ∙ missed-is s (passes r.before.before.before) z in
     rw (missing-accepted s z, c.store.ensures ∙ ap (λ (u : Update). stored s u s.score) n ∙ stored-missing s (facts r.before.before.before))
 

@@ -26,7 +26,7 @@ facts c = valid _ (passes c)
 
 -- what was read is the update of the state
 numbers-are : (c : tie.After-reading_update-u) → let s = c.before.before.before.before.before.args in c.reading_update-u.result ≡ reading_update (ties_to_even s.s.model) (numbers_of s.s) s.y
-numbers-are c = rw (c.before.Numbers-of.ensures, c.before.before.ties_to_even-even.ensures, to_z-of_z c.before.before.before.before.before.ranges.y) at c.reading_update-u.ensures
+numbers-are c = rw (c.before.numbers_of.ensures, c.before.before.ties_to_even-even.ensures, to_z-of_z c.before.before.before.before.before.ranges.y) at c.reading_update-u.ensures
 
 code_is : (c : tie.After-reading_update-u) → let s = c.before.before.before.before.before.args in c.reading_update-u.result.code ≡ step_code s.s s.y
 code_is c = ap (λ (u : Update). u.code) (numbers-are c) ∙ read-code _ (passes c.before.before.before) _
@@ -43,7 +43,7 @@ numbers-of-requires : tie.Need-numbers_of-requires
 numbers-of-requires c κs = (facts c.before).bounded.index
 
 reading-update-requires : tie.Need-reading_update-u-requires
-reading-update-requires c κs = rw c.Numbers-of.ensures (numbers-in _ (facts c.before.before))
+reading-update-requires c κs = rw c.numbers_of.ensures (numbers-in _ (facts c.before.before))
 
 returns-2 : tie.Need-returns-then-k-ne0
 returns-2 c =
@@ -62,30 +62,30 @@ residual-is c =
 
 score-after-requires : tie.Need-score_after-score-requires
 score-after-requires c κs =
-    let r = c.before.before in
+    let r = c.before.before.before in
     let s = r.before.before.before.before.before.args in
-    let a = step-facts s.s s.y (sym (code_is r) ∙ c.before.if-k-ne0.false) in
-    (score-in s.s a.valid, rw (residual-is c) (residual-within s.s a.valid s.y (is-reading s.y a.reading)))
+    let a = step-facts s.s s.y (sym (code_is r) ∙ c.if-k-ne0.false) in
+    (score-in s.s a.valid, rw (residual-is c.before) (residual-within s.s a.valid s.y (is-reading s.y a.reading)))
 
 -- its score is that of the step
-score-is : (c : tie.After-score_after-score) → let s = c.before.before.before.before.before.before.before.before.args in c.score_after-score.result ≡ score_after s.s.score (square_at s.s s.y)
-score-is c = rw (residual-is c.before, c.before.before.before.before.before.ties_to_even-even.ensures) at c.score_after-score.ensures
+score-is : (c : tie.After-score_after-score) → let s = c.args in c.score_after-score.result ≡ score_after s.s.score (square_at s.s s.y)
+score-is c = rw (residual-is c.before.before, c.ties_to_even-even.ensures) at c.score_after-score.ensures
 
 store-requires : tie.Need-store-requires
 store-requires c κs =
-    let r = c.before.before.before in
+    let r = c.before.before.before.before in
     let s = r.before.before.before.before.before.args in
-    ((facts r.before.before.before).bounded.index, (step-facts s.s s.y (sym (code_is r) ∙ c.before.before.if-k-ne0.false)).room)
+    ((facts r.before.before.before).bounded.index, (step-facts s.s s.y (sym (code_is r) ∙ c.if-k-ne0.false)).room)
 
 returns-3 : tie.Need-returns
 returns-3 c =
     let q = c.before in
-    let r = q.before.before.before in
+    let r = q.before.before.before.before in
     let s = r.before.before.before.before.before.args in
-    let z = sym (code_is r) ∙ q.before.before.if-k-ne0.false in
+    let z = sym (code_is r) ∙ q.if-k-ne0.false in
     let n = numbers-are r ∙ read_is s.s (passes r.before.before.before) s.y z in
     let x = c.store.ensures ∙ ap₂ (stored s.s) n (score-is q) ∙ stored_is s.s (facts r.before.before.before) (residual_of s.s s.y) (score_after s.s.score (square_at s.s s.y)) in
-    rw (step-accepted s.s s.y z, x, residual-is q.before)
+    rw (step-accepted s.s s.y z, x, residual-is q.before.before)
 
 pub step_spec : {M : Type 1} → statement M
 step_spec =
