@@ -1,10 +1,13 @@
+-- `checks::values_ok` meets its contract.
 use mir.Syntax.{w64}
-use Rattle.integers.proofs.Difference.{back}
+use mir.Val.{SFits}
+use mir.ValLaws.{to_z-of_z}
+use borrow.Author.Rules.{rules}
 use Rattle.checks.proofs.values_ok.Goals as goal
 
 pub returns : goal.returns
 returns c =
-    let t = c in
-    let s = t.args.t1 in
-    let u = t.struct_told-1.given in
-    rw (c.seasonal_ok.ensures, t.trend_ok.ensures, t.in_range.ensures, back w64 s.level u.1.1.1.1.1.1.1.0.1, back w64 s.trend u.1.1.1.1.1.1.1.1.0.1)
+    let s = c.args.s in
+    let hl : SFits w64 s.level = search rules in
+    let ht : SFits w64 s.trend = search rules in
+    rw (c.seasonal_ok.ensures, c.trend_ok.ensures, c.in_range.ensures, to_z-of_z w64 s.level hl, to_z-of_z w64 s.trend ht)

@@ -5,7 +5,7 @@ use Rattle.fields.proofs.read_cells.Goals as goal
 pub returns-then-s-season_at : goal.returns-then-s-season_at
 returns-then-s-season_at c =
     let p = c in
-    c.cut_Cells.ensures ∙ p.places-n.ensures.1 p.args.s.now
+    c.cut_cells.ensures ∙ p.places-n.ensures.1 p.args.s.now
 
 pub returns : goal.returns
 returns c =

@@ -14,7 +14,7 @@ returns c =
     s.args.v
     s.ranges.v
     c.of_i64-n.ensures
-    c.wrapping_add_u64.ensures
-    c.wrapping_add_u64-sum.ensures
+    c.wrapping_add_u64.ensures.value
+    c.wrapping_add_u64-sum.ensures.value
     c.to_i64.ensures
     c.to_i64.type_inv

@@ -23,7 +23,6 @@ returns-then-z-lt0 c =
 
 pub returns-else-z-lt0 : goal.returns-else-z-lt0
 returns-else-z-lt0 c =
-    let x = c.x-in-Signed-1.given in
     let e = to_z-of_z w64 c.in-Signed.z (search rules) in
     let k : c.digit_count-k.result ≡ digit_count 19 (nat_abs c.in-Signed.z) =
     c.digit_count-k.ensures.0 ∙ ap (digit_count 19) (c.magnitude.ensures ∙ ap nat_abs e) in

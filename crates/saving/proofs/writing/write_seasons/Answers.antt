@@ -7,7 +7,9 @@ use native.Mathlib.Omega.{arith}
 use lib.IntN.{pos}
 use lib.ListN.{get_or}
 use mir.Syntax.{w64}
+use mir.Val.{SFits}
 use mir.ValLaws.{to_z-of_z}
+use borrow.Author.Rules.{rules}
 use Rattle.layout.specs.Layout.{season_at}
 use Rattle.saving.specs.Encoding.{season_bytes, seasons_bytes}
 use Rattle.saving.proofs.ByteLaws.{follow}
@@ -43,8 +45,9 @@ loop-k-preserved c =
     let l = w.loop-k in
     let a = w.args in
     let z = get_or a.cells.now l.k (pos 0) in
-    let e = rw (to_z-of_z w64 z (record { sfits = w.v-1.given })) at w.write_season.ensures in (
-      w.write_season.auto.0 ∙ l.invariant.0,
+    let f : SFits w64 z = search rules in
+    let e = rw (to_z-of_z w64 z f) at w.write_season.ensures in (
+      w.write_season.auto.d ∙ l.invariant.0,
       omega arith,
       rw add-one (follow a.d.now (season_at true 0) (seasons_bytes a.cells.now l.k) (season_bytes l.k z) l.d _ (season_at true l.k) l.invariant.2 e (ap (λ (n : ℕ). season_at true 0 + n) (length-seasons a.cells.now l.k))),
     )
