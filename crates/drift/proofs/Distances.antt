@@ -54,6 +54,7 @@ unfolding AtMost
 unlimited c n z Z h = rw h (omega arith)
 
 zero-power : (n : ℕ) → 0 < n → 0 ^ n ≡ 0
+zero-power zero h = elim h [ ]
 zero-power (suc n) h = rw (pow-suc 0 n) (omega arith)
 
 -- ---- forecasts
@@ -118,7 +119,7 @@ line-law Q z d h = rw (h, known z) (simp diff (omega arith))
 
 no-trend-at : (F : ℕ) (b : ℤ) (j : ℕ) → F ≡ 0 → exact_trend_at F b (suc j) ≡ pos 0
 unfolding exact_trend_at
-no-trend-at F b j h = rw h (zero-*ℤ (exact_trend_at 0 b j))
+no-trend-at F b j h = rw h (zero-*ℤ (exact_trend_at F b j))
 
 line-is : (c : Parameters) (x : Exact) → c.phi ≡ 0 → (h : ℕ) → exact_line c x h ≡ pos (65536 ^ h) *ℤ x.L
 unfolding exact_line

@@ -1,6 +1,6 @@
 -- The groups of the squares: one square more changes one of them, and together they are the sum of the squares.
 use Prim.Native.Nat.{ℕ, zero, suc, ◌+◌, ◌-◌, ◌*◌, ◌%◌, ◌≤◌, ◌<◌}
-use mathlib.Core.Path.{◌≡◌, refl, sym, ap, ◌∙◌}
+use mathlib.Core.Path.{◌≡◌, refl, sym, ap, subst, ◌∙◌}
 use mathlib.Core.Bool.{Bool, true, false, cond}
 use mathlib.Core.List.{List, [], ◌∷◌, ◌++◌}
 use native.Mathlib.Omega.{arith}
@@ -67,7 +67,12 @@ groups-next s n k {r} q =
     changed = set (first_groups s n k) r v
 
     go : (i : ℕ) → i < k → Dec (i ≡ r) → get_or changed i 0 ≡ group_sum s i (suc n)
-    go i h (yes e) = rw (e, ← q, eq-eqb r r refl) (get_or-set_same (first_groups s n k) r v 0 (omega (arith, groups-length s n k, e)))
+    go i h (yes e) =
+        subst (λ (z : ℕ). get_or changed z 0 ≡ group_sum s z (suc n)) (sym e)
+        (get_or-set_same (first_groups s n k) r v 0 (omega (arith, groups-length s n k, e)) ∙ sym own)
+      where
+        own : group_sum s r (suc n) ≡ v
+        own = rw (← q, eq-eqb r r refl) refl
     go i h (no e) =
         rw (← q, ne_eqb r i (λ p. e (sym p)))
         (get_or-set_other (first_groups s n k) r i v 0 e ∙ group_at s n k i h ∙ omega arith)

@@ -10,13 +10,13 @@ use Rattle.weights.specs.Coefficients.{coefficients, coefficient_cells}
 use Rattle.weighting.proofs.coefficients.coefficients.Statement.{statement}
 use Rattle.weighting.proofs.coefficients.coefficients.Tie as tie
 
-code : (c : tie.After-first-n) → let s = c.before.before.before.before.args in c.first-n.result ≡ forecasts_code s.s s.h (length s.cells-1.now)
+code : (c : tie.After-first-n) → let s = c.before.before.before.before.args in c.first-n.result ≡ forecasts_code s.s s.h (length s.cells.now)
 unfolding forecasts_code_to
 code c = rw (c.first-n.ensures, c.before.forecast_code.ensures, c.before.before.unless-room.ensures)
 
 returns : tie.Need-returns-then-n-ne0
 unfolding coefficients coefficient_cells
-returns c = rw (← (code c.before), ne_eqb _ _ c.if-n-ne0.true) record { answer = refl; buffer = refl }
+returns c = rw (← (code c.before), ne_eqb _ _ c.if-n-ne0.true) (refl, refl)
 
 fill-requires : tie.Need-fill-requires
 unfolding forecasts_code_to
@@ -33,7 +33,7 @@ returns-2 c =
     let f = c.before.before in
     let q = f.before.before in
     let z = sym (code q.before) ∙ q.if-n-ne0.false in
-    rw z record { answer = refl; buffer = f.fill.ensures }
+    rw z (refl, f.fill.ensures)
 
 pub coefficients_spec : {M : Type 1} → statement M
 coefficients_spec =

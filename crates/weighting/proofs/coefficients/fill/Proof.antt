@@ -57,7 +57,7 @@ loop-again c =
       (st f).requires.1,
       at-next-j c.before,
       simp length-set f.before.loop-j.invariant.3,
-      rw (c.coefficient-c.ensures.value, add-one (j f))
+      rw (c.coefficient-c.ensures.0, add-one (j f))
           (ap (λ (l : List ℕ). set l (j f) (coefficient (s f) (suc (j f)))) f.before.loop-j.invariant.4 ∙ coefficients-more (s f) (j f) cells (omega (arith, (st f).requires.2))),
     )
 

@@ -28,7 +28,7 @@ invariant-loop s h cells₀ even trend m p₀ k₀ j₀ cells p k j =
 abbrev decreases-loop : tie.decreases-loop-j
 decreases-loop s h cells₀ even trend m p₀ k₀ j₀ cells p k j = h - j
 
-cleared_at : (c : tie.After-slice_known-2-1 invariant-loop decreases-loop) → let at = c.before.before in Cleared at.before.before.before.before.before.before.args.s at.before.before.before.before.before.before.args.cells.now at.clear.new.cells.0
+cleared_at : (c : tie.After-slice_known-2-1 invariant-loop decreases-loop) → let at = c.before.before in Cleared at.before.before.before.before.before.before.args.s at.before.before.before.before.before.before.args.cells.now at.clear.new.cells
 cleared_at c =
     let at = c.before.before in
     let start = at.before.before.before.before.before.before in
@@ -65,10 +65,10 @@ module _ (c : tie.After-coefficient-c invariant-loop decreases-loop) where
   square = c.coefficient-c.result * c.coefficient-c.result
 
   square-small : square ≤ 1134713179734016
-  square-small = product_le 33685504 33685504 c.coefficient-c.ensures.bound c.coefficient-c.ensures.bound
+  square-small = product_le 33685504 33685504 c.coefficient-c.ensures.1 c.coefficient-c.ensures.1
 
   square-is : square ≡ coefficient (s f) (j f) * coefficient (s f) (j f)
-  square-is = ap (λ (x : ℕ). x * x) c.coefficient-c.ensures.value
+  square-is = ap (λ (x : ℕ). x * x) c.coefficient-c.ensures.0
 
   r-is : r ≡ j f % group_count (s f)
   r-is = (at_j c.before).remainder
@@ -100,9 +100,9 @@ loop-again c =
       omega arith,
       omega arith,
       rw now (at_j k.before),
-      rw now (omega (arith, squares-next (s (f k)) (j (f k) - 1) (one_more (f k)), square-is k, square-small k, (f k).before.loop.invariant.4)),
-      simp length-set (f k).before.loop.invariant.5,
-      rw now (cells-next (s (f k)) (j (f k) - 1) _ (f k).before.loop.invariant.6 (r-in k) (one_more (f k)) (r-is k) (square-is k)),
+      rw now (omega (arith, squares-next (s (f k)) (j (f k) - 1) (one_more (f k)), square-is k, square-small k, (f k).before.loop-j.invariant.4)),
+      simp length-set (f k).before.loop-j.invariant.5,
+      rw now (cells-next (s (f k)) (j (f k) - 1) _ (f k).before.loop-j.invariant.6 (r-in k) (one_more (f k)) (r-is k) (square-is k)),
     )
 
 returns : tie.Need-returns invariant-loop decreases-loop

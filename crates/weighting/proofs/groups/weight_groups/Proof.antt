@@ -10,14 +10,14 @@ use Rattle.weights.proofs.Rejecting.{errors-ready}
 use Rattle.weighting.proofs.groups.weight_groups.Statement.{statement}
 use Rattle.weighting.proofs.groups.weight_groups.Tie as tie
 
-code : (c : tie.After-first-n) → let s = c.before.before.before.before.before.args in c.first-n.result ≡ weight_groups_code s.s s.h (length s.cells-1.now)
+code : (c : tie.After-first-n) → let s = c.before.before.before.before.before.args in c.first-n.result ≡ weight_groups_code s.s s.h (length s.cells.now)
 unfolding weight_groups_code
 code c =
     rw (c.first-n.ensures, c.before.errors_code.ensures, c.before.before.unless-room.ensures, c.before.before.before.group_count.ensures)
 
 returns : tie.Need-returns-then-n-ne0
 unfolding weight_groups weight_group_cells
-returns c = rw (← (code c.before), ne_eqb _ _ c.if-n-ne0.true) record { answer = refl; buffer = refl }
+returns c = rw (← (code c.before), ne_eqb _ _ c.if-n-ne0.true) (refl, refl)
 
 add-squares-requires : tie.Need-add_squares-requires
 unfolding weight_groups_code
@@ -34,7 +34,7 @@ returns-2 c =
     let f = c.before.before in
     let q = f.before.before in
     let z = sym (code q.before) ∙ q.if-n-ne0.false in
-    rw z record { answer = refl; buffer = f.add_squares.ensures }
+    rw z (refl, f.add_squares.ensures)
 
 pub weight_groups_spec : {M : Type 1} → statement M
 weight_groups_spec =

@@ -27,7 +27,7 @@ returns c =
     let t = c.before in
     let s = t.before.before in
     let b = bounds s in
-    record { value = coefficient-is s.args.s s.requires.0 s.requires.1 t.trend_term.ensures.0 c.season_term.ensures.0; bound = omega (arith, b.alpha, b.gamma, t.trend_term.ensures.1, c.season_term.ensures.1) }
+    (coefficient-is s.args.s s.requires.0 s.requires.1 t.trend_term.ensures.0 c.season_term.ensures.0, omega (arith, b.alpha, b.gamma, t.trend_term.ensures.1, c.season_term.ensures.1))
 
 pub coefficient_spec : {M : Type 1} → statement M
 coefficient_spec =

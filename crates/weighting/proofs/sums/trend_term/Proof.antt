@@ -20,7 +20,7 @@ returns-2 : tie.Need-returns-then-trend-eq1
 returns-2 c = rw (ne_eqb _ 0 c.before.if-trend-eq0.false, c.if-trend-eq1.true) (refl, straight c.before.before)
 
 returns-3 : tie.Need-returns
-returns-3 c = rw (ne_eqb _ 0 c.before.before.if-trend-eq0.false, ne_eqb _ 1 c.before.if-trend-eq1.false) (c.share.ensures.value, omega (arith, c.share.ensures.bound))
+returns-3 c = rw (ne_eqb _ 0 c.before.before.if-trend-eq0.false, ne_eqb _ 1 c.before.if-trend-eq1.false) (c.share.ensures.0, omega (arith, c.share.ensures.1))
 
 pub trend_term_spec : {M : Type 1} → statement M
 trend_term_spec =

@@ -43,7 +43,7 @@ at_j c =
     at_next (s f) (j f - 1) (one_more f) (omega arith) f.before.loop-j.invariant.3 c.before.next_damping-p.ensures (rw f.before.before.group_count-m.ensures at c.next_remainder-k.ensures)
 
 square-small : (c : tie.After-coefficient-c invariant-loop decreases-loop) → let r = c.coefficient-c.result in r * r ≤ 1134713179734016
-square-small c = product_le 33685504 33685504 c.coefficient-c.ensures.bound c.coefficient-c.ensures.bound
+square-small c = product_le 33685504 33685504 c.coefficient-c.ensures.1 c.coefficient-c.ensures.1
 
 loop-holds : tie.Need-loop-j-init invariant-loop decreases-loop
 unfolding squares weight_of
@@ -75,7 +75,7 @@ loop-again c =
       omega arith,
       rw now (at_j c.before),
       omega (arith, square-small c),
-      omega (arith, f.before.loop-j.invariant.5, ap (λ (x : ℕ). x * x) c.coefficient-c.ensures.value, weight-next (s f) (j f - 1) (one_more f)),
+      omega (arith, f.before.loop-j.invariant.5, ap (λ (x : ℕ). x * x) c.coefficient-c.ensures.0, weight-next (s f) (j f - 1) (one_more f)),
     )
 
 returns : tie.Need-returns invariant-loop decreases-loop

@@ -16,7 +16,7 @@ pub returns-then-n-eq0 : goal.returns-then-n-eq0
 unfolding variance
 returns-then-n-eq0 c =
     let w = c in
-    rw (← w.errors_code-n.ensures, w.if-n-eq0.true, ← w.WeightOf.ensures) c.product.ensures
+    rw (← w.errors_code-n.ensures, w.if-n-eq0.true, ← w.weight_of.ensures) c.product.ensures
 
 pub returns-else-n-eq0 : goal.returns-else-n-eq0
 unfolding variance

@@ -14,7 +14,7 @@ weight_of-requires c =
 
 pub returns-then-n-eq0 : goal.returns-then-n-eq0
 unfolding weight
-returns-then-n-eq0 c = rw (← c.errors_code-n.ensures, c.if-n-eq0.true, ← c.WeightOf.ensures)
+returns-then-n-eq0 c = rw (← c.errors_code-n.ensures, c.if-n-eq0.true, ← c.weight_of.ensures)
 
 pub returns-else-n-eq0 : goal.returns-else-n-eq0
 unfolding weight
