@@ -8,15 +8,11 @@ import time
 from harness import PROGRAM, TOOLS, case, environment, holds, same, started
 
 STAND_IN = f"""#!/bin/sh
-echo "$@" >> calls
+echo "$@ in $(basename "$PWD")" >> ../../calls
 echo "rt: state proved (1 s)"
-if [ -f fail ]; then exit 1; fi
-# as rt does, a crate with a stamp is taken as built
-if [ ! -f target/stamp/forecast_run ]; then
-    mkdir -p target/bin target/stamp
-    cp "{PROGRAM}" target/bin/forecast_run
-    echo done > target/stamp/forecast_run
-fi
+if [ -f ../../fail ]; then exit 1; fi
+mkdir -p out
+cp "{PROGRAM}" out/forecast_run
 """
 FIRST = "run: building target/bin/forecast_run: its crates are proved first, 2 to 4 minutes on 2 cores, once\nrt: state proved (1 s)\n"
 AGAIN = "run: crates/ changed after target/bin/forecast_run was built: checking it again\nrt: state proved (1 s)\n"
@@ -28,7 +24,7 @@ class Copy:
     def __init__(self, folder):
         self.folder = folder
         started(["cp", "-r", TOOLS, folder / "tools"], folder)
-        self.source = folder / "crates/a/src/main.rt"
+        self.source = folder / "crates/forecast_run/src/main.rt"
         self.source.parent.mkdir(parents=True)
         self.source.write_text("")
         os.utime(self.source, (time.time() - 100,) * 2)
@@ -63,7 +59,7 @@ def once(folder):
     copy = Copy(folder)
     ended = copy.run("day.txt")
     same((ended.status, ended.err), (0, FIRST), "status and message")
-    same(copy.calls(), ["check forecast_run"], "calls of rt")
+    same(copy.calls(), ["run in forecast_run"], "calls of rt")
     again = copy.run("day.txt")
     same((again.status, again.err, again.out), (0, "", ended.out), "a second run")
     same(len(copy.calls()), 1, "calls of rt")

@@ -115,7 +115,7 @@ def run_all(words):
     """Runs every case whose name has one of the words, or all; prints each that fails and the summary. The exit status."""
     chosen = [named for named in CASES if not words or any(word in named[0] for word in words)]
     if not PROGRAM.exists():
-        print("tools: target/bin/forecast_run is not there: run `rt check forecast_run` first")
+        print("tools: target/bin/forecast_run is not there: run `tools/build forecast_run` first")
         return 1
     before, failed, began = snapshot_of_tree(), 0, time.monotonic()
     with concurrent.futures.ThreadPoolExecutor(os.cpu_count() or 1) as workers:

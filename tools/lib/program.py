@@ -2,6 +2,7 @@
 
 import os
 import pathlib
+import shutil
 import subprocess
 import sys
 from typing import NamedTuple
@@ -11,7 +12,8 @@ from lib.cli import Failure, note
 
 ROOT = pathlib.Path(__file__).resolve().parents[2]
 BUILT = ROOT / "target/bin/forecast_run"
-STAMP = ROOT / "target/stamp/forecast_run"
+CRATE = ROOT / "crates/forecast_run"
+MADE = CRATE / "out/forecast_run"  # what rt builds
 NOT_BUILT = 3  # the exit status where there is no program
 
 
@@ -20,8 +22,12 @@ def is_current():
     if not BUILT.exists():
         return False
     built = BUILT.stat().st_mtime
-    files = (pathlib.Path(folder) / name for folder, _, names in os.walk(ROOT / "crates") for name in names)
-    return all(file.lstat().st_mtime <= built for file in files)
+    for folder, folders, names in os.walk(ROOT / "crates"):
+        if "out" in folders:
+            folders.remove("out")  # what rt makes
+        if any((pathlib.Path(folder) / name).lstat().st_mtime > built for name in names):
+            return False
+    return True
 
 
 def build():
@@ -29,19 +35,17 @@ def build():
         note("crates/ changed after target/bin/forecast_run was built: checking it again")
     else:
         note("building target/bin/forecast_run: its crates are proved first, 2 to 4 minutes on 2 cores, once")
-        # rt takes a crate with a stamp as built, even where its program was deleted
-        if STAMP.exists():
-            STAMP.unlink()
     try:
-        ended = subprocess.run(["rt", "check", "forecast_run"], cwd=ROOT, stdout=sys.stderr, stdin=subprocess.DEVNULL)
+        # rt plays what it builds: the empty stream, which prints nothing
+        ended = subprocess.run(["rt", "run"], cwd=CRATE, stdout=sys.stderr, stdin=subprocess.DEVNULL)
     except FileNotFoundError:
         raise Failure("rt is not on the path: the Rattle kit builds target/bin/forecast_run", NOT_BUILT) from None
-    if ended.returncode != 0 or not BUILT.exists():
+    if ended.returncode != 0 or not MADE.exists():
         raise Failure("target/bin/forecast_run could not be built", NOT_BUILT)
-    try:
-        os.utime(BUILT)  # rt leaves an unchanged program's time: without this the next run would ask rt again
-    except PermissionError:
-        pass
+    BUILT.parent.mkdir(parents=True, exist_ok=True)
+    taken = BUILT.with_suffix(".new")
+    shutil.copy(MADE, taken)
+    os.replace(taken, BUILT)
 
 
 def path():
