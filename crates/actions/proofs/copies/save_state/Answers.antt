@@ -11,9 +11,9 @@ pub returns-in-Accepted : goal.returns-in-Accepted
 returns-in-Accepted c =
     let r = c.save-outcome.ensures in
     let n = c.size_of-count.ensures ∙ sym (length-encoded c.args.s) in
-    record { answer = rw (← r.0, c.in-Accepted.is, ← n) c.accept.ensures; bytes = r.1 }
+    record { answer = rw (← r.answer, c.in-Accepted.is, ← n) c.accept.ensures; bytes = r.bytes }
 
 pub returns-in-Rejected : goal.returns-in-Rejected
 returns-in-Rejected c =
     let r = c.save-outcome.ensures in
-    record { answer = rw (← r.0, c.in-Rejected.is) c.reject.ensures; bytes = r.1 }
+    record { answer = rw (← r.answer, c.in-Rejected.is) c.reject.ensures; bytes = r.bytes }
