@@ -1,5 +1,5 @@
 use Prim.Native.Nat.{◌+◌, ◌-◌, ◌%◌, ◌<◌, ℕ}
-use mathlib.Core.Path.{◌≡◌, refl, sym, ◌∙◌}
+use mathlib.Core.Path.{◌≡◌, sym, ◌∙◌}
 use mathlib.Core.Bool.{true, false}
 use native.Mathlib.Nat.{mod-lt}
 use native.Mathlib.Omega.{arith}
@@ -10,7 +10,7 @@ use mir.Val.{to_z, of_z}
 use Rattle.integers.proofs.Bounds.{within-zero, within-back}
 use Rattle.models.specs.Models.{has_season}
 use Rattle.state.specs.declared.State.{State}
-use Rattle.state.specs.Valid.{Valid, Seasonal}
+use Rattle.state.specs.Valid.{Valid}
 use Rattle.forecasts.specs.Forecasts.{season_at}
 use Rattle.forecasting.proofs.sums.season_at.Goals as goal
 
