@@ -84,6 +84,6 @@ returns c =
     let q = (goal.at.returns c).Else-not-calendar_ok in
     let t = (goal.at.returns c).After-trend_line in
     let v : c.trend_line.result +ℤ get_or c.args.s.seasonal c.place_at-k.result (pos 0) ≡ forecast_by (calendar_of c.args.skipped.now c.args.repeated.now) c.args.s c.args.h =
-      ap₂ (λ (x y : ℤ). x +ℤ y) (c.trend_line.ensures.value ∙ same_line _ _ _ _ _ _ _ _ c.ties_to_even.ensures (level_is q) (trend_is q))
-      (ap (λ (p : ℕ). get_or c.args.s.seasonal p (pos 0)) c.place_at-k.ensures.value) in
+    ap₂ (λ (x y : ℤ). x +ℤ y) (c.trend_line.ensures.value ∙ same_line _ _ _ _ _ _ _ _ c.ties_to_even.ensures (level_is q) (trend_is q))
+    (ap (λ (p : ℕ). get_or c.args.s.seasonal p (pos 0)) c.place_at-k.ensures.value) in
     rw (code (goal.at.returns c).After-calendar_ok true c.if-not-calendar_ok.false, back w64 c.trend_line.result c.trend_line.type_inv, season-is t, to_z-of_z w64 _ (sum_fits t), v)
