@@ -40,10 +40,10 @@ module _ (c : tie.After-forecasts) where
   facts = valid st.args.s st.requires.0
 
   abbrev means : List ℤ
-  means = c.forecasts.new.h.1.0
+  means = c.forecasts.new.values
 
   means_is : means ≡ forecast_list st.args.s h ++ drop h (replicate 512 (pos 0))
-  means_is = forecasts-filled st.args.s h (replicate 512 (pos 0)) ready st.requires.2 c.forecasts.ensures.buffer
+  means_is = forecasts-filled st.args.s h (replicate 512 (pos 0)) ready st.requires.2 c.forecasts.ensures.1
 
 -- ---- the coefficients
 module _ (c : tie.After-coefficients) where
@@ -51,10 +51,10 @@ module _ (c : tie.After-coefficients) where
   first = c.before.before.before
 
   abbrev cs : List ℕ
-  cs = c.coefficients.new.h.1.0
+  cs = c.coefficients.new.cells
 
   cs-is : cs ≡ coefficient_list (st first).args.s (h first) ++ drop (h first) (replicate 512 0)
-  cs-is = coefficients-filled (st first).args.s (h first) (replicate 512 0) (ready first) (st first).requires.2 c.coefficients.ensures.buffer
+  cs-is = coefficients-filled (st first).args.s (h first) (replicate 512 0) (ready first) (st first).requires.2 c.coefficients.ensures.1
 
 squares-requires : tie.Need-squares-requires
 squares-requires c κs =
@@ -83,10 +83,10 @@ module _ (c : tie.After-fill-sound) where
   σ² = (st f).args.sigma2
 
   abbrev c2 : List Float
-  c2 = c.before.before.before.before.squares.new.h.1.0
+  c2 = c.before.before.before.before.squares.new.squared
 
   abbrev own : List Float
-  own = c.fill-sound.new.c2.1.1.1.0
+  own = c.fill-sound.new.own
 
   same-means : (k : ℕ) → 1 ≤ k → k ≤ h f → means_in (means f) k ≡ squared_mean s k
   same-means = means-are s (facts f) (h f) (st f).requires.2 (means f) _ (means_is f)
@@ -99,12 +99,12 @@ module _ (c : tie.After-fill-sound) where
 
   owns : own ≡ θs ++ drop (h f) (replicate 512 nought)
   owns =
-      c.fill-sound.ensures.own
+      c.fill-sound.ensures.1
       ∙ ap (λ (l : List Float). l ++ drop (h f) (replicate 512 nought))
       (thetas-same (squares_in c2) (squared_coefficient s) (h f) same-squares (means_in (means f)) (squared_mean s) σ² same-means (h f) (omega arith))
 
   sound-is : c.fill-sound.result ≡ thetas_finite (squared_mean s) (squared_coefficient s) σ² (h f)
-  sound-is = c.fill-sound.ensures.answer ∙ finite-same (squares_in c2) (squared_coefficient s) (h f) same-squares (means_in (means f)) (squared_mean s) σ² same-means (h f) (omega arith)
+  sound-is = c.fill-sound.ensures.0 ∙ finite-same (squares_in c2) (squared_coefficient s) (h f) same-squares (means_in (means f)) (squared_mean s) σ² same-means (h f) (omega arith)
 
   long : length θs ≡ h f
   long = thetas-length (squared_mean s) (squared_coefficient s) σ² (h f)
@@ -156,13 +156,13 @@ returns c =
     let copied = c.before.before in
     let a = copied.before.before.before.before in
     let e = code a true copied.before.before.before.if-sound-is_finite.true in
-    record { answer = rw e (ap VarianceOf.Accepted (value a)); cells = rw e (rw (first-are (filled a)) at copied.copy.ensures) }
+    (rw e (ap VarianceOf.Accepted (value a)), rw e (rw (first-are (filled a)) at copied.copy.ensures))
 
 returns-2 : tie.Need-returns-else-sound-is_finite
 unfolding computed_variance computed_cells
 returns-2 c =
     let e = code c.before false c.if-sound-is_finite.false in
-    record { answer = rw e; cells = rw e }
+    (rw e, rw e)
 
 pub computed_spec : {M : Type 1} → statement M
 computed_spec =

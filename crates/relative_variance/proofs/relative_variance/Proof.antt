@@ -14,7 +14,7 @@ unfolding relative_variance relative_cells relative_code
 returns c =
     let e = c.before.input_code-n.ensures in
     let n = ne_eqb c.before.input_code-n.result 0 c.if-n-ne0.true in
-    record { answer = rw (← e, n, n); buffer = rw (← e, n, n) }
+    (rw (← e, n, n), rw (← e, n, n))
 
 taken_is : (c : tie.Else-n-ne0) → let s = c.before.before.before in Taken s.args.s s.args.h s.args.sigma2 (length s.args.thetas.now)
 taken_is c = taken _ _ _ _ (sym c.before.input_code-n.ensures ∙ c.if-n-ne0.false)
@@ -30,7 +30,7 @@ returns-2 c =
     let call = c.before.before in
     let b = call.before.before in
     let z = sym b.before.input_code-n.ensures ∙ b.if-n-ne0.false in
-    record { answer = rw z call.computed.ensures.answer; buffer = rw z call.computed.ensures.cells }
+    (rw z call.computed.ensures.0, rw z call.computed.ensures.1)
 
 pub relative_variance_spec : {M : Type 1} → statement M
 relative_variance_spec =

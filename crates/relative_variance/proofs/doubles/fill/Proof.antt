@@ -48,24 +48,24 @@ loop-holds c =
 
 theta-requires : tie.Need-theta-t-requires invariant-loop decreases-loop
 theta-requires c κs =
-    let at = c.before.before in
+    let at = c.before in
     let s = at.before.before.before.before in
-    (at.loop-i.invariant.0, omega (arith, s.requires.1), s.requires.3 at.loop-i.i c.before.loop-i-test.true)
+    (at.loop-i.invariant.0, omega (arith, s.requires.1), s.requires.3 at.loop-i.i c.loop-i-test.true)
 
 loop-again : tie.Need-loop-i-preserved invariant-loop decreases-loop
 loop-again c =
-    let at = c.before.before.before.before in
+    let at = c.before.before.before in
     let s = at.before.before.before.before in
     let cells = set s.args.own.now 0 at.before.before.square-first.result in
-    let h : at.loop-i.i < s.args.h = c.before.before.before.loop-i-test.true in
+    let h : at.loop-i.i < s.args.h = c.before.before.loop-i-test.true in
     let long : at.loop-i.i < length cells = simp length-set (omega (arith, s.requires.2)) in
     let means = means_in s.args.mu.now in
     let squares = squares_in s.args.c2.now in
     let t = c.before.theta-t in (
       search rules,
       search rules,
-      rw add-one (turn-list means squares s.args.sigma2 at.loop-i.own_val cells at.loop-i.i at.loop-i.invariant.2 t.result t.ensures long),
-      rw add-one (turn-finite means squares s.args.sigma2 at.loop-i.own_val cells at.loop-i.i at.loop-i.invariant.2 at.loop-i.sound c.is_finite-sound-in-loop-i.result t.result at.loop-i.invariant.3 t.ensures c.is_finite-sound-in-loop-i.ensures),
+      rw add-one (turn-list means squares s.args.sigma2 at.loop-i.own cells at.loop-i.i at.loop-i.invariant.2 t.result t.ensures long),
+      rw add-one (turn-finite means squares s.args.sigma2 at.loop-i.own cells at.loop-i.i at.loop-i.invariant.2 at.loop-i.sound c.is_finite-sound-in-loop-i.result t.result at.loop-i.invariant.3 t.ensures c.is_finite-sound-in-loop-i.ensures),
     )
 
 returns : tie.Need-returns invariant-loop decreases-loop
@@ -73,7 +73,7 @@ returns c =
     let at = c.before in
     let s = at.before.before.before.before in
     let n : at.loop-i.i ≡ s.args.h = omega arith in
-    record { answer = at.loop-i.invariant.3 ∙ rw n; own = rw n at at.loop-i.invariant.2 ∙ rw (drop-set-lt s.args.h s.args.own.now 0 at.before.before.square-first.result s.requires.0) }
+    (at.loop-i.invariant.3 ∙ rw n, rw n at at.loop-i.invariant.2 ∙ rw (drop-set-lt s.args.h s.args.own.now 0 at.before.before.square-first.result s.requires.0))
 
 pub fill_spec : {M : Type 1} → statement M
 fill_spec =

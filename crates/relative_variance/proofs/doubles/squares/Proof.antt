@@ -39,11 +39,11 @@ module _ (c : tie.In-loop-i invariant-loop decreases-loop) where
   kept = to_z_pos w64 C (omega (arith, small))
 
 square-requires : tie.Need-square-requires invariant-loop decreases-loop
-square-requires c κs = rw (kept c.before) (small c.before)
+square-requires c κs = rw (kept c.before.before) (small c.before.before)
 
 loop-again : tie.Need-loop-i-preserved invariant-loop decreases-loop
 loop-again c =
-    let f = c.before.before in
+    let f = c.before.before.before in
     let at = f.before in (
       search rules,
       simp length-set at.loop-i.invariant.1,
@@ -66,7 +66,7 @@ squares_spec =
     loop-holds
     (λ c. search rules)
     (λ c. search rules)
-    (λ c. record { sfits = omega (arith, small c.before) })
+    (λ c. record { sfits = omega (arith, small c.before.before) })
     square-requires
     (λ c. search rules)
     (λ c. search rules)
