@@ -8,188 +8,210 @@ use super::printing::{
     print_signed, print_state, print_values,
 };
 use super::{changes, names};
+use input::read_full;
 use layout::Length;
-use libc::STDIN_FILENO;
 use relative_errors::RelativeVariance;
 use state::{Answer, Outcome, State};
+use std::io::{Stdin, Stdout};
 use weights::{Variance, Weight};
 
-pub fn print_outcome(outcome: Outcome) {
+pub fn print_outcome(out: Stdout, outcome: Outcome) {
     match outcome {
-        Outcome::Accepted => print_code(0),
-        Outcome::Rejected(code) => print_code(code),
+        Outcome::Accepted => print_code(out, 0),
+        Outcome::Rejected(code) => print_code(out, code),
     }
 }
 
-pub fn print_answer(answer: Answer) {
+pub fn print_answer(out: Stdout, answer: Answer) {
     match answer {
         Answer::Accepted(v) => {
-            print_code(0);
-            print_signed(v);
+            print_code(out, 0);
+            print_signed(out, v);
         }
-        Answer::Rejected(code) => print_code(code),
+        Answer::Rejected(code) => print_code(out, code),
     }
 }
 
-fn print_weight(w: Weight) {
+fn print_weight(out: Stdout, w: Weight) {
     match w {
         Weight::Accepted(n) => {
-            print_code(0);
-            print_number(n);
+            print_code(out, 0);
+            print_number(out, n);
         }
-        Weight::Rejected(code) => print_code(code),
+        Weight::Rejected(code) => print_code(out, code),
     }
 }
 
-fn print_variance(v: Variance) {
+fn print_variance(out: Stdout, v: Variance) {
     match v {
         Variance::Accepted { high, low } => {
-            print_code(0);
-            print_number(high);
-            print_number(low);
+            print_code(out, 0);
+            print_number(out, high);
+            print_number(out, low);
         }
-        Variance::Rejected(code) => print_code(code),
+        Variance::Rejected(code) => print_code(out, code),
     }
 }
 
-fn print_relative(v: RelativeVariance) {
+fn print_relative(out: Stdout, v: RelativeVariance) {
     match v {
         RelativeVariance::Accepted(x) => {
-            print_code(0);
-            print_double(x);
+            print_code(out, 0);
+            print_double(out, x);
         }
-        RelativeVariance::Rejected(code) => print_code(code),
+        RelativeVariance::Rejected(code) => print_code(out, code),
     }
 }
 
-fn print_length(length: Length) {
+fn print_length(out: Stdout, length: Length) {
     match length {
-        Length::Bytes(n) => print_number(n as u64),
-        Length::Rejected(code) => print_code(code),
+        Length::Bytes(n) => print_number(out, n as u64),
+        Length::Rejected(code) => print_code(out, code),
     }
 }
 
-fn play_step(s: State) {
-    let r = updates::steps::step(s, next_i32());
+fn play_step(from: Stdin, out: Stdout, s: State) {
+    let r = updates::steps::step(s, next_i32(from));
     let residual = r.residual;
-    print_answer(residual);
-    print_state(r.state);
+    print_answer(out, residual);
+    print_state(out, r.state);
 }
 
-fn play_missing(s: State) {
+fn play_missing(out: Stdout, s: State) {
     let r = updates::steps::missing(s);
     let outcome = r.outcome;
-    print_outcome(outcome);
-    print_state(r.state);
+    print_outcome(out, outcome);
+    print_state(out, r.state);
 }
 
-fn play_switch(s: State) {
+fn play_switch(out: Stdout, s: State) {
     let r = checks::switching::switch_to_even(s);
     let outcome = r.outcome;
-    print_outcome(outcome);
-    print_state(r.state);
+    print_outcome(out, outcome);
+    print_state(out, r.state);
 }
 
-fn play_switch_in_place() {
+fn play_switch_in_place(mut from: Stdin, out: Stdout) {
     let mut space = [0u8; 1024];
-    let bytes = first_bytes(&mut space, next_size());
-    io::read_full(STDIN_FILENO, bytes);
-    print_code(in_place::switch_to_even(bytes));
-    print_bytes(bytes);
+    let bytes = first_bytes(&mut space, next_size(from));
+    read_full(&mut from, bytes);
+    print_code(out, in_place::switch_to_even(bytes));
+    print_bytes(out, bytes);
 }
 
-fn play_batch(s: State, levels: &mut [i64]) {
+fn play_batch(from: Stdin, out: Stdout, s: State, levels: &mut [i64]) {
     let mut space = [0i32; 256];
-    let readings = next_readings(&mut space, next_size());
+    let readings = next_readings(from, &mut space, next_size(from));
     let r = updates::batches::batch(s, readings, levels);
     let outcome = r.outcome;
-    print_outcome(outcome);
-    print_number(r.taken as u64);
-    print_state(r.state);
+    print_outcome(out, outcome);
+    print_number(out, r.taken as u64);
+    print_state(out, r.state);
 }
 
 // Cells start as 77, so that what a call leaves untouched is seen.
-fn play_cells(operation: u8, s: State) {
+fn play_cells(from: Stdin, out: Stdout, operation: u8, s: State) {
     let mut cells = [77i64; 520];
-    let values = first_values(&mut cells, next_size());
+    let values = first_values(&mut cells, next_size(from));
     if operation == 5 {
-        play_batch(s, values);
+        play_batch(from, out, s, values);
     } else if operation == 7 {
-        print_outcome(forecasting::forecasts(s, next_u32(), values));
+        print_outcome(out, forecasting::forecasts(s, next_u32(from), values));
     } else {
-        print_outcome(forecasting::display_forecasts(s, next_u32(), values));
+        print_outcome(
+            out,
+            forecasting::display_forecasts(s, next_u32(from), values),
+        );
     }
-    print_values(values);
+    print_values(out, values);
 }
 
-fn play_weight_groups(s: State) {
+fn play_weight_groups(from: Stdin, out: Stdout, s: State) {
     let mut space = [77u64; 520];
-    let cells = first_numbers(&mut space, next_size());
-    print_outcome(weighting::groups::weight_groups(s, next_u32(), cells));
-    print_numbers(cells);
+    let cells = first_numbers(&mut space, next_size(from));
+    print_outcome(
+        out,
+        weighting::groups::weight_groups(s, next_u32(from), cells),
+    );
+    print_numbers(out, cells);
 }
 
-fn play_coefficients(s: State) {
+fn play_coefficients(from: Stdin, out: Stdout, s: State) {
     let mut space = [77u64; 520];
-    let cells = first_numbers(&mut space, next_size());
-    print_outcome(weighting::coefficients::coefficients(s, next_u32(), cells));
-    print_numbers(cells);
+    let cells = first_numbers(&mut space, next_size(from));
+    print_outcome(
+        out,
+        weighting::coefficients::coefficients(s, next_u32(from), cells),
+    );
+    print_numbers(out, cells);
 }
 
-fn play_relative(s: State) {
+fn play_relative(from: Stdin, out: Stdout, s: State) {
     let mut space = [77.0f64; 520];
-    let cells = first_doubles(&mut space, next_size());
-    print_relative(relative_variance::relative_variance(s, next_u32(), next_u64(), cells));
-    print_doubles(cells);
+    let cells = first_doubles(&mut space, next_size(from));
+    print_relative(
+        out,
+        relative_variance::relative_variance(s, next_u32(from), next_u64(from), cells),
+    );
+    print_doubles(out, cells);
 }
 
-fn play_save(s: State) {
+fn play_save(from: Stdin, out: Stdout, s: State) {
     let mut cells = [77u8; 1024];
-    let bytes = first_bytes(&mut cells, next_size());
-    print_outcome(saving::save(s, bytes));
-    print_length(saving::bytes_needed(s));
-    print_bytes(bytes);
+    let bytes = first_bytes(&mut cells, next_size(from));
+    print_outcome(out, saving::save(s, bytes));
+    print_length(out, saving::bytes_needed(s));
+    print_bytes(out, bytes);
 }
 
-fn play_read() {
+fn play_read(mut from: Stdin, out: Stdout) {
     let mut space = [0u8; 1024];
-    let bytes = first_bytes(&mut space, next_size());
-    io::read_full(STDIN_FILENO, bytes);
+    let bytes = first_bytes(&mut space, next_size(from));
+    read_full(&mut from, bytes);
     let opened = snapshot::read(bytes);
     let outcome = opened.outcome;
-    print_outcome(outcome);
-    print_state(opened.state);
+    print_outcome(out, outcome);
+    print_state(out, opened.state);
     let mut code = 0u8;
     let left = snapshot::rest(bytes, &mut code);
-    print_code(code);
-    print_bytes(left);
+    print_code(out, code);
+    print_bytes(out, left);
 }
 
 // Makes the call of an operation, and prints what it answers.
-pub fn play(operation: u8) {
+pub fn play(from: Stdin, out: Stdout, operation: u8) {
     if 24 <= operation {
-        names::play(operation);
+        names::play(from, out, operation);
         return;
     }
     if 18 <= operation {
-        changes::play(operation, next_state());
+        changes::play(from, out, operation, next_state(from));
         return;
     }
     match operation {
-        1 => play_read(),
-        2 => print_code(checks::check(next_state())),
-        3 => play_step(next_state()),
-        4 => play_missing(next_state()),
-        6 => print_answer(forecasting::forecast(next_state(), next_u32())),
-        8 => print_weight(weighting::variances::weight(next_state(), next_u32())),
-        9 => print_variance(weighting::variances::variance(next_state(), next_u32(), next_u32())),
-        10 => play_save(next_state()),
-        11 => print_answer(forecasting::display_forecast(next_state(), next_u32())),
-        13 => play_switch(next_state()),
-        14 => play_switch_in_place(),
-        15 => play_weight_groups(next_state()),
-        16 => play_relative(next_state()),
-        17 => play_coefficients(next_state()),
-        _ => play_cells(operation, next_state()),
+        1 => play_read(from, out),
+        2 => print_code(out, checks::check(next_state(from))),
+        3 => play_step(from, out, next_state(from)),
+        4 => play_missing(out, next_state(from)),
+        6 => print_answer(out, forecasting::forecast(next_state(from), next_u32(from))),
+        8 => print_weight(
+            out,
+            weighting::variances::weight(next_state(from), next_u32(from)),
+        ),
+        9 => print_variance(
+            out,
+            weighting::variances::variance(next_state(from), next_u32(from), next_u32(from)),
+        ),
+        10 => play_save(from, out, next_state(from)),
+        11 => print_answer(
+            out,
+            forecasting::display_forecast(next_state(from), next_u32(from)),
+        ),
+        13 => play_switch(out, next_state(from)),
+        14 => play_switch_in_place(from, out),
+        15 => play_weight_groups(from, out, next_state(from)),
+        16 => play_relative(from, out, next_state(from)),
+        17 => play_coefficients(from, out, next_state(from)),
+        _ => play_cells(from, out, operation, next_state(from)),
     }
 }

@@ -5,60 +5,84 @@ use super::input::{
 };
 use super::printing::{print_number, print_state, print_values};
 use state::State;
+use std::io::{Stdin, Stdout};
 
-fn play_step(s: State, skipped: &[u64], repeated: &[u64]) {
-    let r = clock_changes::step_on(s, skipped, repeated, next_i32());
+fn play_step(from: Stdin, out: Stdout, s: State, skipped: &[u64], repeated: &[u64]) {
+    let r = clock_changes::step_on(s, skipped, repeated, next_i32(from));
     let residual = r.residual;
-    print_answer(residual);
-    print_state(r.state);
+    print_answer(out, residual);
+    print_state(out, r.state);
 }
 
-fn play_missing(s: State, skipped: &[u64], repeated: &[u64]) {
+fn play_missing(out: Stdout, s: State, skipped: &[u64], repeated: &[u64]) {
     let r = clock_changes::missing_on(s, skipped, repeated);
     let outcome = r.outcome;
-    print_outcome(outcome);
-    print_state(r.state);
+    print_outcome(out, outcome);
+    print_state(out, r.state);
 }
 
-fn play_batch(s: State, skipped: &[u64], repeated: &[u64], levels: &mut [i64]) {
+fn play_batch(
+    from: Stdin,
+    out: Stdout,
+    s: State,
+    skipped: &[u64],
+    repeated: &[u64],
+    levels: &mut [i64],
+) {
     let mut space = [0i32; 256];
-    let readings = next_readings(&mut space, next_size());
+    let readings = next_readings(from, &mut space, next_size(from));
     let r = updates::batches::batch_on(s, skipped, repeated, readings, levels);
     let outcome = r.outcome;
-    print_outcome(outcome);
-    print_number(r.taken as u64);
-    print_state(r.state);
+    print_outcome(out, outcome);
+    print_number(out, r.taken as u64);
+    print_state(out, r.state);
 }
 
 // Cells start as 77, so that what a call leaves untouched is seen.
-fn play_cells(operation: u8, s: State, skipped: &[u64], repeated: &[u64]) {
+fn play_cells(
+    from: Stdin,
+    out: Stdout,
+    operation: u8,
+    s: State,
+    skipped: &[u64],
+    repeated: &[u64],
+) {
     let mut cells = [77i64; 520];
-    let values = first_values(&mut cells, next_size());
+    let values = first_values(&mut cells, next_size(from));
     if operation == 20 {
-        play_batch(s, skipped, repeated, values);
+        play_batch(from, out, s, skipped, repeated, values);
     } else {
-        print_outcome(forecasting::changes::forecasts_on(s, skipped, repeated, next_u32(), values));
+        print_outcome(
+            out,
+            forecasting::changes::forecasts_on(s, skipped, repeated, next_u32(from), values),
+        );
     }
-    print_values(values);
+    print_values(out, values);
 }
 
-fn play_window(s: State, skipped: &[u64], repeated: &[u64]) {
-    let first = next_byte();
-    let end = next_byte();
-    print_answer(windows::window_maximum(s, skipped, repeated, first, end));
+fn play_window(from: Stdin, out: Stdout, s: State, skipped: &[u64], repeated: &[u64]) {
+    let first = next_byte(from);
+    let end = next_byte(from);
+    print_answer(
+        out,
+        windows::window_maximum(s, skipped, repeated, first, end),
+    );
 }
 
 // A list has at most 64 counts.
-pub fn play(operation: u8, s: State) {
+pub fn play(from: Stdin, out: Stdout, operation: u8, s: State) {
     let mut first = [0u64; 64];
-    let skipped = next_counts(&mut first, next_size());
+    let skipped = next_counts(from, &mut first, next_size(from));
     let mut second = [0u64; 64];
-    let repeated = next_counts(&mut second, next_size());
+    let repeated = next_counts(from, &mut second, next_size(from));
     match operation {
-        18 => play_step(s, skipped, repeated),
-        19 => play_missing(s, skipped, repeated),
-        21 => print_answer(forecasting::changes::forecast_on(s, skipped, repeated, next_u32())),
-        23 => play_window(s, skipped, repeated),
-        _ => play_cells(operation, s, skipped, repeated),
+        18 => play_step(from, out, s, skipped, repeated),
+        19 => play_missing(out, s, skipped, repeated),
+        21 => print_answer(
+            out,
+            forecasting::changes::forecast_on(s, skipped, repeated, next_u32(from)),
+        ),
+        23 => play_window(from, out, s, skipped, repeated),
+        _ => play_cells(from, out, operation, s, skipped, repeated),
     }
 }

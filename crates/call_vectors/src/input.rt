@@ -1,40 +1,41 @@
 // The numbers of the records, one after the other, low byte first; 0 where the input has ended.
-use libc::STDIN_FILENO;
+use input::read_full;
 use operands::{read_i32, read_i64, read_u32, read_u64};
 use state::{Score, State};
+use std::io::Stdin;
 
-pub fn next_byte() -> u8 {
+pub fn next_byte(mut from: Stdin) -> u8 {
     let mut bytes = [0u8; 1];
-    io::read_full(STDIN_FILENO, &mut bytes);
+    read_full(&mut from, &mut bytes);
     bytes[0]
 }
 
-pub fn next_u32() -> u32 {
+pub fn next_u32(mut from: Stdin) -> u32 {
     let mut bytes = [0u8; 4];
-    io::read_full(STDIN_FILENO, &mut bytes);
+    read_full(&mut from, &mut bytes);
     read_u32(&bytes, 0)
 }
 
 // A length, of 32 bits.
-pub fn next_size() -> usize {
-    next_u32() as usize
+pub fn next_size(from: Stdin) -> usize {
+    next_u32(from) as usize
 }
 
-pub fn next_u64() -> u64 {
+pub fn next_u64(mut from: Stdin) -> u64 {
     let mut bytes = [0u8; 8];
-    io::read_full(STDIN_FILENO, &mut bytes);
+    read_full(&mut from, &mut bytes);
     read_u64(&bytes, 0)
 }
 
-pub fn next_i32() -> i32 {
+pub fn next_i32(mut from: Stdin) -> i32 {
     let mut bytes = [0u8; 4];
-    io::read_full(STDIN_FILENO, &mut bytes);
+    read_full(&mut from, &mut bytes);
     read_i32(&bytes, 0)
 }
 
-pub fn next_i64() -> i64 {
+pub fn next_i64(mut from: Stdin) -> i64 {
     let mut bytes = [0u8; 8];
-    io::read_full(STDIN_FILENO, &mut bytes);
+    read_full(&mut from, &mut bytes);
     read_i64(&bytes, 0)
 }
 
@@ -72,70 +73,68 @@ pub fn first_doubles<'a>(doubles: &'a mut [f64], n: usize) -> &'a mut [f64] {
 }
 
 // The season cells of a record, and 0 after them.
-fn next_season() -> [i64; 48] {
-    let n = next_size();
+fn next_season(from: Stdin) -> [i64; 48] {
+    let n = next_size(from);
     let mut cells = [0i64; 48];
-    let mut k = 0;
-    while k < 48 {
+    for k in 0..48 {
         if n <= k {
             return cells;
         }
-        cells[k] = next_i64();
-        k += 1;
+        cells[k] = next_i64(from);
     }
     cells
 }
 
 // So many readings, or as many as there is room for.
-pub fn next_readings<'a>(space: &'a mut [i32], n: usize) -> &'a mut [i32] {
+pub fn next_readings<'a>(from: Stdin, space: &'a mut [i32], n: usize) -> &'a mut [i32] {
     let mut i = 0;
     while i < n {
         if space.len() <= i {
             return space;
         }
-        space[i] = next_i32();
+        space[i] = next_i32(from);
         i += 1;
     }
     &mut space[..i]
 }
 
 // So many step counts, or as many as there is room for.
-pub fn next_counts<'a>(space: &'a mut [u64], n: usize) -> &'a mut [u64] {
+pub fn next_counts<'a>(from: Stdin, space: &'a mut [u64], n: usize) -> &'a mut [u64] {
     let mut i = 0;
     while i < n {
         if space.len() <= i {
             return space;
         }
-        space[i] = next_u64();
+        space[i] = next_u64(from);
         i += 1;
     }
     &mut space[..i]
 }
 
-fn next_score() -> Score {
+fn next_score(from: Stdin) -> Score {
     Score {
-        readings: next_u64(),
-        high: next_u64(),
-        low: next_u64(),
+        readings: next_u64(from),
+        high: next_u64(from),
+        low: next_u64(from),
     }
 }
 
 // A state as it stands, whatever its numbers.
-pub fn next_state() -> State {
-    let seasonal = next_season();
+pub fn next_state(from: Stdin) -> State {
+    let seasonal = next_season(from);
     State {
-        outside: next_byte() != 0,
-        model: next_byte(),
-        period: next_byte(),
-        alpha: next_u32(),
-        beta: next_u32(),
-        gamma: next_u32(),
-        phi: next_u32(),
-        level: next_i64(),
-        trend: next_i64(),
+        outside: next_byte(from) != 0,
+        model: next_byte(from),
+        period: next_byte(from),
+        alpha: next_u32(from),
+        beta: next_u32(from),
+        gamma: next_u32(from),
+        phi: next_u32(from),
+        level: next_i64(from),
+        trend: next_i64(from),
         seasonal,
-        index: next_byte(),
-        count: next_u64(),
-        score: next_score(),
+        index: next_byte(from),
+        count: next_u64(from),
+        score: next_score(from),
     }
 }

@@ -7,24 +7,24 @@ mod input;
 mod names;
 mod printing;
 
+use self::input::next_byte;
 use answers::play;
-use input::next_byte;
 use printing::{end_line, print_code};
 
 // More records than any file of calls has, so that the program ends.
 const MAX_RECORDS: usize = 100000;
 
 // A line for each record: its operation, and what the call answers.
-fn main() {
-    let mut left = MAX_RECORDS;
-    while 0 < left {
-        let operation = next_byte();
+fn main(rt: HostRuntime) {
+    let from = rt.stdin();
+    let out = rt.stdout();
+    for _ in 0..MAX_RECORDS {
+        let operation = next_byte(from);
         if operation == 0 {
             return;
         }
-        print_code(operation);
-        play(operation);
-        end_line();
-        left -= 1;
+        print_code(out, operation);
+        play(from, out, operation);
+        end_line(out);
     }
 }

@@ -2,32 +2,33 @@
 use super::answers::print_outcome;
 use super::input::{first_bytes, next_byte, next_size, next_state};
 use super::printing::{print_bytes, print_state};
-use libc::STDIN_FILENO;
+use input::read_full;
 use state::State;
+use std::io::{Stdin, Stdout};
 
-fn play_store(s: State) {
-    let name = next_byte();
+fn play_store(from: Stdin, out: Stdout, s: State) {
+    let name = next_byte(from);
     let mut cells = [77u8; 2304];
-    let bytes = first_bytes(&mut cells, next_size());
-    print_outcome(checkpoints::store(s, name, bytes));
-    print_bytes(bytes);
+    let bytes = first_bytes(&mut cells, next_size(from));
+    print_outcome(out, checkpoints::store(s, name, bytes));
+    print_bytes(out, bytes);
 }
 
-fn play_restore() {
-    let name = next_byte();
+fn play_restore(mut from: Stdin, out: Stdout) {
+    let name = next_byte(from);
     let mut space = [0u8; 2304];
-    let bytes = first_bytes(&mut space, next_size());
-    io::read_full(STDIN_FILENO, bytes);
+    let bytes = first_bytes(&mut space, next_size(from));
+    read_full(&mut from, bytes);
     let found = checkpoints::restore(name, bytes);
     let outcome = found.outcome;
-    print_outcome(outcome);
-    print_state(found.state);
+    print_outcome(out, outcome);
+    print_state(out, found.state);
 }
 
-pub fn play(operation: u8) {
+pub fn play(from: Stdin, out: Stdout, operation: u8) {
     if operation == 24 {
-        play_store(next_state());
+        play_store(from, out, next_state(from));
     } else {
-        play_restore();
+        play_restore(from, out);
     }
 }
