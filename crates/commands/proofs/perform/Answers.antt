@@ -30,7 +30,7 @@ returns c =
     let a = c.args in
     let m = c.match-command in
     let n : (length m.checkpoints ≡ length a.checkpoints.now) × (length m.buffer ≡ length a.buffer.now) = (m.auto.checkpoints, m.auto.buffer) in
-    let k = done a.stream.now a.session a.checkpoints.now a.buffer.now c.decode-found.result in
+    let k = done a.stream.now a.session a.checkpoints.now a.buffer.now c.decode-found.result {a = m.action} {kept = m.checkpoints} {saved = m.buffer} in
     let acted : Done a.stream.now a.session a.checkpoints.now a.buffer.now c.decode-found.result m.action m.checkpoints m.buffer =
     elim m.branch [
       | in-Reading w ↦
