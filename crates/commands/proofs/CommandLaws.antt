@@ -70,9 +70,9 @@ module _ (x : Session) (next offset : ℕ) (t : State) where
   by-outcome OutcomeOf.Accepted r = refl
   by-outcome (OutcomeOf.Rejected c) r = refl
 
-  by_answer : (o : Answer) (r : ℤ → Reply) → settled x.at x.active next offset (by_answer o (λ v. ActionOf.accepted (r v) t) (ActionOf.rejected x.state)) ≡ by_answer o (λ v. accepted (r v) next t) (λ (c : ℕ). rejected c offset x)
-  by_answer (AnswerOf.Accepted v) r = refl
-  by_answer (AnswerOf.Rejected c) r = refl
+  by_answer-is : (o : Answer) (r : ℤ → Reply) → settled x.at x.active next offset (by_answer o (λ v. ActionOf.accepted (r v) t) (ActionOf.rejected x.state)) ≡ by_answer o (λ v. accepted (r v) next t) (λ (c : ℕ). rejected c offset x)
+  by_answer-is (AnswerOf.Accepted v) r = refl
+  by_answer-is (AnswerOf.Rejected c) r = refl
 
   by-variance : (o : Variance) (r : ℕ → ℕ → Reply) → settled x.at x.active next offset (by_variance o (λ a b. ActionOf.accepted (r a b) t) (ActionOf.rejected x.state)) ≡ by_variance o (λ a b. accepted (r a b) next t) (λ (c : ℕ). rejected c offset x)
   by-variance (VarianceOf.Accepted a b) r = refl
@@ -115,9 +115,9 @@ module _ (x : Session) (cs : List ℕ) (room : ℕ) (a : Action) where
   unfolding take_reading take_missing switch_state give_forecast give_variance give_relative_variance save_state store_state restore_state
   settles s next CommandOf.End e = absurd e
   settles s next CommandOf.Open e = absurd e
-  settles s next (CommandOf.Reading y) e = rw e (by_answer x next x.at (step x.state y).state (step x.state y).residual (λ v. ReplyOf.Residual v))
+  settles s next (CommandOf.Reading y) e = rw e (by_answer-is x next x.at (step x.state y).state (step x.state y).residual (λ v. ReplyOf.Residual v))
   settles s next CommandOf.Missing e = rw e (by-outcome x next x.at (missing x.state).state (missing x.state).outcome ReplyOf.Missing)
-  settles s next (CommandOf.Forecast h) e = rw e (by_answer x next x.at x.state (forecast x.state h) (λ v. ReplyOf.Forecast h v))
+  settles s next (CommandOf.Forecast h) e = rw e (by_answer-is x next x.at x.state (forecast x.state h) (λ v. ReplyOf.Forecast h v))
   settles s next (CommandOf.Variance h sigma2) e = rw e (by-variance x next x.at x.state (variance x.state h sigma2) (λ m n. ReplyOf.Variance h m n))
   settles s next CommandOf.Save e = rw e (by-outcome x next x.at x.state (save x.state room) (ReplyOf.Saved (length (encoded x.state))))
   settles s next (CommandOf.Rejected code) e = rw e

@@ -18,10 +18,9 @@ returns c =
     let s = a.stream.now in
     let cs = a.checkpoints.now in
     let d = a.line.now in
-    let saved = p.new.1.1.1.0 in (
-      ap (written p.result) w.0 ∙ written_is s a.session cs (length d) d p.result saved p.ensures.0 p.ensures.1.1,
-      (
-        p.ensures.1.0,
-        w.1 ∙ bytes-are s a.session cs (length d) d p.result saved p.ensures.0 p.ensures.1.1,
-      ),
-    )
+    let saved = p.new.buffer in
+    record {
+      answer = ap (written p.result) w.answer ∙ written_is s a.session cs (length d) d p.result saved p.ensures.answer p.ensures.bytes;
+      kept = p.ensures.kept;
+      bytes = w.bytes ∙ bytes-are s a.session cs (length d) d p.result saved p.ensures.answer p.ensures.bytes;
+    }
