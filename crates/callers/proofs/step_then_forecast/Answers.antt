@@ -22,4 +22,5 @@ pub returns : goal.returns
 returns c =
     let a = c.args in
     let y-is : to_z w32 (of_z w32 a.y) ≡ a.y = search rules in
-    chained a.s a.y a.h c.step-stepped.result c.forecast.result (rw y-is at c.step-stepped.ensures) c.forecast.ensures
+    let r = chained a.s a.y a.h c.step-stepped.result c.forecast.result (rw y-is at c.step-stepped.ensures) c.forecast.ensures in
+    record { answer = r.0; limit = r.1 }

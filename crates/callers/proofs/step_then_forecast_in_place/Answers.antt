@@ -26,25 +26,20 @@ module _ (d d' : List ℕ) (y : ℤ) (h r : ℕ) (old v : ℤ) (e : d' ≡ in_pl
 
 pub returns : goal.returns
 returns c =
-    let b = c in
-    let a = b.args in
+    let a = c.args in
     let y-is : to_z w32 (of_z w32 a.y) ≡ a.y = search rules in
-    let e = rw y-is at b.forecaster_step.ensures.bytes.0 in
+    let e = rw y-is at c.forecaster_step.ensures.bytes in
     let f = c.forecaster_forecast.ensures.code in
     let g = c.forecaster_forecast.ensures.number in
     let d = a.snapshot.now in
-    let d' = b.forecaster_step.new.snapshot in
+    let b : AreBytes d = search rules in
+    let d' = c.forecaster_step.new.snapshot in
     let r = c.forecaster_forecast.result in
-    let v = c.forecaster_forecast.new.horizon.1.0 in (
-      code d d' a.y a.h r a.value.now v e f g,
-      (
-        e,
-        (
-          rw y-is at b.forecaster_step.ensures.bytes.1,
-          (
-            value d d' a.y a.h r a.value.now v e f g,
-            limit d d' a.y a.h r a.value.now v e f g b.slice_known-1.given,
-          ),
-        ),
-      ),
-    )
+    let v = c.forecaster_forecast.new.value in
+    record {
+      code = code d d' a.y a.h r a.value.now v e f g;
+      bytes = e;
+      number = rw y-is at c.forecaster_step.ensures.number;
+      forecast = value d d' a.y a.h r a.value.now v e f g;
+      limit = limit d d' a.y a.h r a.value.now v e f g b;
+    }
