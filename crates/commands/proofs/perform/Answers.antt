@@ -34,8 +34,8 @@ returns c =
     let acted : Done a.stream.now a.session a.checkpoints.now a.buffer.now c.decode-found.result m.action m.checkpoints m.buffer =
     elim m.branch [
       | in-Reading w ↦
-        let f : SFits w32 w.in-Reading.y = search rules in
-        k (CommandOf.Reading _) w.in-Reading.is (w.action-is ∙ rw (to_z-of_z w32 w.in-Reading.y f) at w.take_reading-action.ensures) w.checkpoints-is w.buffer-is n
+          let f : SFits w32 w.in-Reading.y = search rules in
+          k (CommandOf.Reading _) w.in-Reading.is (w.action-is ∙ rw (to_z-of_z w32 w.in-Reading.y f) at w.take_reading-action.ensures) w.checkpoints-is w.buffer-is n
       | in-Missing w ↦ k CommandOf.Missing w.in-Missing.is (w.action-is ∙ w.take_missing-action.ensures) w.checkpoints-is w.buffer-is n
       | in-Forecast w ↦ k (CommandOf.Forecast _) w.in-Forecast.is (w.action-is ∙ w.give_forecast-action.ensures) w.checkpoints-is w.buffer-is n
       | in-Variance w ↦ k (CommandOf.Variance _ _) w.in-Variance.is (w.action-is ∙ w.give_variance-action.ensures) w.checkpoints-is w.buffer-is n
