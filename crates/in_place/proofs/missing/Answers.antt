@@ -1,13 +1,12 @@
 -- `in_place::missing` meets its contract: the update is that of the state which the slice holds, and what is stored is the next one's snapshot.
 use Prim.Native.Nat.{ℕ, ◌<◌}
-use mathlib.Core.Path.{◌≡◌, refl, sym, ap, ap₂, ◌∙◌}
+use mathlib.Core.Path.{◌≡◌, sym, ap, ap₂, ◌∙◌}
 use mathlib.Core.Bool.{Bool, true}
 use mathlib.Core.List.{List}
 use lib.Dec.{leb}
 use lib.IntN.{ℤ, pos}
 use lib.ListN.{length}
 use mir.Syntax.{w64}
-use mir.Val.{to_z, of_z}
 use mir.ValLaws.{to_z-of_z}
 use Rattle.models.specs.Models.{ties_to_even}
 use Rattle.state.specs.Fixed.{max_count}
@@ -20,7 +19,7 @@ use Rattle.ets.specs.declared.Update.{Update}
 use Rattle.ets.proofs.StepLaws.{missing-facts}
 use Rattle.ets.proofs.UpdateLaws.{update-missing-code}
 use Rattle.layout.specs.Bytes.{AreBytes}
-use Rattle.layout.specs.Layout.{size_of, scored_in}
+use Rattle.layout.specs.Layout.{size_of}
 use Rattle.slices.specs.Slices.{opened_in}
 use Rattle.slices.specs.declared.Checked.{Checked}
 use Rattle.snapshot.specs.Facts.{Room}

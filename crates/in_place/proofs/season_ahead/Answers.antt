@@ -1,17 +1,15 @@
 -- `in_place::season_ahead` meets its contract.
 use Prim.Native.Nat.{ℕ, ◌+◌, ◌-◌, ◌%◌, ◌<◌}
-use mathlib.Core.Path.{◌≡◌, refl, sym, ◌∙◌}
-use mathlib.Core.Bool.{Bool, true, false, cond, ◌||◌, false≢true}
+use mathlib.Core.Path.{◌≡◌, refl, sym}
+use mathlib.Core.Bool.{Bool, true, false, ◌||◌, false≢true}
 use mathlib.Core.List.{List}
 use native.Mathlib.Nat.{mod-lt}
 use native.Mathlib.Omega.{arith}
 use lib.Dec.{eqb}
 use lib.ListN.{length}
-use lib.IntN.{ℤ}
 use mir.Syntax.{w64}
 use mir.ValLaws.{to_z-of_z}
 use borrow.Author.Tests.{eqb-false, le-leb}
-use Rattle.state.specs.declared.Answer.{Answer}
 use Rattle.layout.specs.CommandTable.{season_length}
 use Rattle.layout.specs.Layout.{season_at, scored_in, season_in}
 use Rattle.slices.specs.Slices.{season_value}

@@ -21,7 +21,7 @@ use Rattle.state.specs.declared.Numbers.{Numbers}
 use Rattle.ets.specs.declared.Update.{Update}
 use Rattle.ets.proofs.ScoreLaws.{update-score-is}
 use Rattle.layout.specs.Bytes.{AreBytes}
-use Rattle.layout.specs.Layout.{size_of, scored_in}
+use Rattle.layout.specs.Layout.{size_of}
 use Rattle.slices.specs.Slices.{opened_in, score_value}
 use Rattle.slices.specs.declared.Checked.{Checked}
 use Rattle.snapshot.specs.Facts.{Room}
