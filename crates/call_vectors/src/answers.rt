@@ -8,8 +8,8 @@ use super::printing::{
     print_signed, print_state, print_values,
 };
 use super::{changes, names};
-use input::read_full;
 use layout::Length;
+use readers::read_full;
 use relative_errors::RelativeVariance;
 use state::{Answer, Outcome, State};
 use std::io::{Stdin, Stdout};

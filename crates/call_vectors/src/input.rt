@@ -1,6 +1,6 @@
 // The numbers of the records, one after the other, low byte first; 0 where the input has ended.
-use input::read_full;
 use operands::{read_i32, read_i64, read_u32, read_u64};
+use readers::read_full;
 use state::{Score, State};
 use std::io::Stdin;
 

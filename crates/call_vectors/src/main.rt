@@ -7,8 +7,8 @@ mod input;
 mod names;
 mod printing;
 
-use self::input::next_byte;
 use answers::play;
+use input::next_byte;
 use printing::{end_line, print_code};
 
 // More records than any file of calls has, so that the program ends.

@@ -2,7 +2,7 @@
 use super::answers::print_outcome;
 use super::input::{first_bytes, next_byte, next_size, next_state};
 use super::printing::{print_bytes, print_state};
-use input::read_full;
+use readers::read_full;
 use state::State;
 use std::io::{Stdin, Stdout};
 

@@ -2,7 +2,7 @@
 #![tactic(auto)]
 
 use console::play;
-use input::read_full;
+use readers::read_full;
 use streams::INPUT_LIMIT;
 
 fn main(rt: HostRuntime) {

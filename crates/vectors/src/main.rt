@@ -4,7 +4,7 @@
 
 ghost use Rattle.std.specs.Prelude.{◌<◌};
 
-use input::read_full;
+use readers::read_full;
 use std::fs::File;
 use std::io::{ErrorKind, Stdout};
 use std::{env, io};
