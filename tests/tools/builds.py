@@ -14,7 +14,7 @@ if [ -f ../../fail ]; then exit 1; fi
 mkdir -p out
 cp "{PROGRAM}" out/forecast_run
 """
-FIRST = "run: building target/bin/forecast_run: its crates are proved first, 2 to 4 minutes on 2 cores, once\nrt: state proved (1 s)\n"
+FIRST = "run: building target/bin/forecast_run: its crates are proved first, some 11 minutes on 4 cores, once\nrt: state proved (1 s)\n"
 AGAIN = "run: crates/ changed after target/bin/forecast_run was built: checking it again\nrt: state proved (1 s)\n"
 
 

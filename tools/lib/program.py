@@ -34,7 +34,7 @@ def build():
     if BUILT.exists():
         note("crates/ changed after target/bin/forecast_run was built: checking it again")
     else:
-        note("building target/bin/forecast_run: its crates are proved first, 2 to 4 minutes on 2 cores, once")
+        note("building target/bin/forecast_run: its crates are proved first, some 11 minutes on 4 cores, once")
     try:
         # rt plays what it builds: the empty stream, which prints nothing
         ended = subprocess.run(["rt", "run"], cwd=CRATE, stdout=sys.stderr, stdin=subprocess.DEVNULL)
