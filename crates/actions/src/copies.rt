@@ -10,19 +10,18 @@ use layout::size_of;
 use replies::Reply;
 use saving::save;
 use snapshot::{read, rest};
-use state::{Outcome, State};
+use state::State;
 
 pub fn save_state(s: State, buffer: &mut [u8]) -> Action
     ensures answer { result ≡ save_state s (length buffer.old) accepted (rejected s) }
     ensures bytes { buffer.new ≡ saved_bytes s buffer.old }
 {
-    let outcome = save(s, buffer);
-    match outcome {
-        Outcome::Accepted => {
+    match save(s, buffer) {
+        Ok(()) => {
             let count = size_of(s.period) as u32;
             accept(Reply::Saved(count), s)
         }
-        Outcome::Rejected(code) => reject(s, code),
+        Err(rejection) => reject(s, rejection),
     }
 }
 
@@ -31,10 +30,9 @@ pub fn store_state(s: State, slot: u8, checkpoints: &mut [u8]) -> Action
     ensures answer { result ≡ store_state s slot (length checkpoints.old) accepted (rejected s) }
     ensures kept { checkpoints.new ≡ stored_bytes s slot checkpoints.old }
 {
-    let outcome = store(s, slot, checkpoints);
-    match outcome {
-        Outcome::Accepted => accept(Reply::Silent, s),
-        Outcome::Rejected(code) => reject(s, code),
+    match store(s, slot, checkpoints) {
+        Ok(()) => accept(Reply::Silent, s),
+        Err(rejection) => reject(s, rejection),
     }
 }
 
@@ -42,11 +40,9 @@ pub fn restore_state(s: State, slot: u8, checkpoints: &[u8]) -> Action
     ensures { result ≡ restore_state slot checkpoints.now accepted (rejected s) }
 {
     let found = restore(slot, checkpoints);
-    let outcome = found.outcome;
-    let kept = found.state;
-    match outcome {
-        Outcome::Accepted => accept(Reply::Silent, kept),
-        Outcome::Rejected(code) => reject(s, code),
+    match found.outcome {
+        Ok(()) => accept(Reply::Silent, found.state),
+        Err(rejection) => reject(s, rejection),
     }
 }
 
@@ -54,18 +50,18 @@ pub fn restore_state(s: State, slot: u8, checkpoints: &[u8]) -> Action
 pub fn open_snapshot(s: State, stream: &[u8]) -> Opening
     ensures { result ≡ opening s stream.now }
 {
-    let mut code = 0u8;
-    let left = rest(stream, &mut code);
+    let (left, outcome) = rest(stream);
     let size = stream.len() - left.len();
-    if code != 0 {
-        let action = reject(s, code);
-        return Opening { action, size };
-    }
-    let found = read(stream);
-    let reply = Reply::Opened {
-        model: found.state.model,
-        period: found.state.period,
+    let action = match outcome {
+        Ok(()) => {
+            let state = read(stream).state;
+            let reply = Reply::Opened {
+                model: state.model,
+                period: state.period,
+            };
+            accept(reply, state)
+        }
+        Err(rejection) => reject(s, rejection),
     };
-    let action = accept(reply, found.state);
     Opening { action, size }
 }

@@ -9,13 +9,12 @@ ghost use Rattle.std.specs.Prelude.{◌≡◌};
 ghost use Rattle.actions.specs.Actions.{accepted, rejected};
 
 use replies::Reply;
-use state::{Outcome, State};
+use state::{Rejection, State};
 
-// Whether a command is accepted, its answer where it is, and the state that stands after it.
+// A command's answer, and the state that stands after it.
 #[derive(Clone, Copy)]
 pub struct Action {
-    pub outcome: Outcome,
-    pub reply: Reply,
+    pub answer: Result<Reply, Rejection>,
     pub state: State,
 }
 
@@ -30,18 +29,16 @@ pub fn accept(reply: Reply, state: State) -> Action
     ensures { result ≡ accepted reply state }
 {
     Action {
-        outcome: Outcome::Accepted,
-        reply,
+        answer: Ok(reply),
         state,
     }
 }
 
-pub fn reject(state: State, code: u8) -> Action
-    ensures { result ≡ rejected state code }
+pub fn reject(state: State, rejection: Rejection) -> Action
+    ensures { result ≡ rejected state rejection }
 {
     Action {
-        outcome: Outcome::Rejected(code),
-        reply: Reply::Silent,
+        answer: Err(rejection),
         state,
     }
 }

@@ -5,17 +5,16 @@ ghost use Rattle.actions.specs.Actions.{accepted, rejected, take_reading, take_m
 use super::{Action, accept, reject};
 use checks::switching::switch_to_even;
 use replies::Reply;
-use state::{Answer, Outcome, State};
+use state::State;
 use updates::steps::{missing, step};
 
 pub fn take_reading(s: State, y: i32) -> Action
     ensures { result ≡ take_reading s y accepted (rejected s) }
 {
     let found = step(s, y);
-    let residual = found.residual;
-    match residual {
-        Answer::Accepted(e) => accept(Reply::Residual(e), found.state),
-        Answer::Rejected(code) => reject(s, code),
+    match found.residual {
+        Ok(e) => accept(Reply::Residual(e), found.state),
+        Err(rejection) => reject(s, rejection),
     }
 }
 
@@ -23,10 +22,9 @@ pub fn take_missing(s: State) -> Action
     ensures { result ≡ take_missing s accepted (rejected s) }
 {
     let found = missing(s);
-    let outcome = found.outcome;
-    match outcome {
-        Outcome::Accepted => accept(Reply::Missing, found.state),
-        Outcome::Rejected(code) => reject(s, code),
+    match found.outcome {
+        Ok(()) => accept(Reply::Missing, found.state),
+        Err(rejection) => reject(s, rejection),
     }
 }
 
@@ -35,9 +33,8 @@ pub fn switch_state(s: State) -> Action
     ensures { result ≡ switch_state s accepted (rejected s) }
 {
     let found = switch_to_even(s);
-    let outcome = found.outcome;
-    match outcome {
-        Outcome::Accepted => accept(Reply::Silent, found.state),
-        Outcome::Rejected(code) => reject(s, code),
+    match found.outcome {
+        Ok(()) => accept(Reply::Silent, found.state),
+        Err(rejection) => reject(s, rejection),
     }
 }

@@ -2,20 +2,13 @@
 // Each returns the rejection's number or 0, as the station's calls do; a rejected call leaves the cells and the lent weight as found.
 #![tactic(auto)]
 
+mod calls;
+
 ghost use Rattle.std.specs.Prelude.{◌≡◌, length};
 ghost use Rattle.calendars.specs.Calendars.{calendar_of};
 ghost use Rattle.bench_api.specs.Snapshots.{batch_code, batch_taken, batch_cells, batch_on_code, batch_on_taken, batch_on_cells, all_code, all_cells, all_on_code, all_on_cells, in_place_weight_code, in_place_weight, in_place_groups_code, in_place_group_cells, in_place_relative_code, in_place_relative_value, in_place_relative_cells};
 
-use forecasting::changes::forecasts_on;
-use forecasting::forecasts;
-use relative_errors::RelativeVariance;
-use relative_variance::relative_variance;
-use slices::read;
-use state::code_of;
-use updates::batches::{batch, batch_on};
-use weighting::groups::weight_groups;
-use weighting::variances::weight;
-use weights::Weight;
+use state::{code_of, number};
 
 // The readings taken are told in every case: 0 where a check before the first of them stops the batch.
 #[unsafe(no_mangle)]
@@ -29,19 +22,7 @@ pub extern "C" fn bench_batch(
     ensures number { taken.new ≡ batch_taken snapshot.now readings.now (length levels.old) }
     ensures buffer { levels.new ≡ batch_cells snapshot.now readings.now levels.old }
 {
-    let opened = read(snapshot);
-    let outcome = opened.outcome;
-    let code = code_of(outcome);
-    if code != 0 {
-        *taken = 0;
-        return code;
-    }
-    let state = opened.state;
-    let done = batch(state, readings, levels);
-    let count = done.taken;
-    *taken = count;
-    let end = done.outcome;
-    code_of(end)
+    code_of(calls::batch(snapshot, readings, levels, taken))
 }
 
 // The same by two lists of clock changes (W-208).
@@ -58,19 +39,7 @@ pub extern "C" fn bench_batch_on(
     ensures number { taken.new ≡ batch_on_taken snapshot.now (calendar_of skipped.now repeated.now) readings.now (length levels.old) }
     ensures buffer { levels.new ≡ batch_on_cells snapshot.now (calendar_of skipped.now repeated.now) readings.now levels.old }
 {
-    let opened = read(snapshot);
-    let outcome = opened.outcome;
-    let code = code_of(outcome);
-    if code != 0 {
-        *taken = 0;
-        return code;
-    }
-    let state = opened.state;
-    let done = batch_on(state, skipped, repeated, readings, levels);
-    let count = done.taken;
-    *taken = count;
-    let end = done.outcome;
-    code_of(end)
+    code_of(calls::batch_on(snapshot, skipped, repeated, readings, levels, taken))
 }
 
 #[unsafe(no_mangle)]
@@ -78,14 +47,7 @@ pub extern "C" fn bench_forecasts(snapshot: &[u8], horizon: u32, values: &mut [i
     ensures code { result ≡ all_code snapshot.now horizon (length values.old) }
     ensures buffer { values.new ≡ all_cells snapshot.now horizon values.old }
 {
-    let opened = read(snapshot);
-    let outcome = opened.outcome;
-    let code = code_of(outcome);
-    if code != 0 {
-        return code;
-    }
-    let state = opened.state;
-    code_of(forecasts(state, horizon, values))
+    code_of(calls::forecasts(snapshot, horizon, values))
 }
 
 // The same by two lists of clock changes (W-208).
@@ -100,14 +62,7 @@ pub extern "C" fn bench_forecasts_on(
     ensures code { result ≡ all_on_code snapshot.now (calendar_of skipped.now repeated.now) horizon (length values.old) }
     ensures buffer { values.new ≡ all_on_cells snapshot.now (calendar_of skipped.now repeated.now) horizon values.old }
 {
-    let opened = read(snapshot);
-    let outcome = opened.outcome;
-    let code = code_of(outcome);
-    if code != 0 {
-        return code;
-    }
-    let state = opened.state;
-    code_of(forecasts_on(state, skipped, repeated, horizon, values))
+    code_of(calls::forecasts_on(snapshot, skipped, repeated, horizon, values))
 }
 
 #[unsafe(no_mangle)]
@@ -115,19 +70,12 @@ pub extern "C" fn bench_weight(snapshot: &[u8], horizon: u32, value: &mut u64) -
     ensures code { result ≡ in_place_weight_code snapshot.now horizon }
     ensures number { value.new ≡ in_place_weight snapshot.now horizon value.old }
 {
-    let opened = read(snapshot);
-    let outcome = opened.outcome;
-    let code = code_of(outcome);
-    if code != 0 {
-        return code;
-    }
-    let state = opened.state;
-    match weight(state, horizon) {
-        Weight::Accepted(w) => {
+    match calls::weight(snapshot, horizon) {
+        Ok(w) => {
             *value = w;
             0
         }
-        Weight::Rejected(n) => n,
+        Err(rejection) => number(rejection),
     }
 }
 
@@ -136,14 +84,7 @@ pub extern "C" fn bench_weight_groups(snapshot: &[u8], horizon: u32, cells: &mut
     ensures code { result ≡ in_place_groups_code snapshot.now horizon (length cells.old) }
     ensures buffer { cells.new ≡ in_place_group_cells snapshot.now horizon cells.old }
 {
-    let opened = read(snapshot);
-    let outcome = opened.outcome;
-    let code = code_of(outcome);
-    if code != 0 {
-        return code;
-    }
-    let state = opened.state;
-    code_of(weight_groups(state, horizon, cells))
+    code_of(calls::weight_groups(snapshot, horizon, cells))
 }
 
 #[unsafe(no_mangle)]
@@ -158,18 +99,11 @@ pub extern "C" fn bench_relative_variance(
     ensures number { value.new ≡ in_place_relative_value snapshot.now horizon sigma2 (length thetas.old) value.old }
     ensures buffer { thetas.new ≡ in_place_relative_cells snapshot.now horizon sigma2 thetas.old }
 {
-    let opened = read(snapshot);
-    let outcome = opened.outcome;
-    let code = code_of(outcome);
-    if code != 0 {
-        return code;
-    }
-    let state = opened.state;
-    match relative_variance(state, horizon, sigma2, thetas) {
-        RelativeVariance::Accepted(v) => {
+    match calls::relative_variance(snapshot, horizon, sigma2, thetas) {
+        Ok(v) => {
             *value = v;
             0
         }
-        RelativeVariance::Rejected(n) => n,
+        Err(rejection) => number(rejection),
     }
 }

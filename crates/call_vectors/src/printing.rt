@@ -22,15 +22,12 @@ pub fn end_line(mut out: Stdout) {
     let _ = out.write_all(b"\n");
 }
 
-pub fn print_values(out: Stdout, values: &[i64]) {
-    for z in values {
-        print_signed(out, *z);
-    }
-}
-
-pub fn print_numbers(out: Stdout, numbers: &[u64]) {
-    for n in numbers {
-        print_number(out, *n);
+// The cells of a slice, one after the other.
+pub fn print_all<T: Copy, F: Fn(Stdout, T)>(out: Stdout, cells: &[T], show: F)
+    requires { F.IsAlwaysCallable show }
+{
+    for &cell in cells {
+        show(out, cell);
     }
 }
 
@@ -43,21 +40,8 @@ pub fn print_double(mut out: Stdout, x: f64) {
     }
 }
 
-pub fn print_doubles(out: Stdout, doubles: &[f64]) {
-    for x in doubles {
-        print_double(out, *x);
-    }
-}
-
 pub fn print_bytes(out: Stdout, bytes: &[u8]) {
-    for b in bytes {
-        print_code(out, *b);
-    }
-}
-
-// The length of a lent array is known, that of a field is not.
-fn print_season(out: Stdout, cells: &[i64; 48]) {
-    print_values(out, cells);
+    print_all(out, bytes, print_code);
 }
 
 fn print_score(out: Stdout, s: Score) {
@@ -69,7 +53,7 @@ fn print_score(out: Stdout, s: Score) {
 pub fn print_state(out: Stdout, s: State) {
     let cells = s.seasonal;
     print_code(out, s.outside as u8);
-    print_values(
+    print_all(
         out,
         &[
             s.model as i64,
@@ -81,9 +65,10 @@ pub fn print_state(out: Stdout, s: State) {
             s.level,
             s.trend,
         ],
+        print_signed,
     );
     print_code(out, s.index);
     print_number(out, s.count);
     print_score(out, s.score);
-    print_season(out, &cells);
+    print_all(out, &cells, print_signed);
 }

@@ -12,11 +12,11 @@ ghost use Rattle.callers.specs.Chains.{ForecastWithin};
 
 use c_api::{forecaster_forecast, forecaster_step};
 use forecasting::forecast;
-use state::{Answer, State};
+use state::{Rejection, State};
 use updates::steps::step;
 
 // A reading, then a forecast.
-pub fn step_then_forecast(s: State, y: i32, h: u32) -> Answer
+pub fn step_then_forecast(s: State, y: i32, h: u32) -> Result<i64, Rejection>
     ensures answer { result ≡ forecast (step s y).state h }
     ensures limit { ForecastWithin s (Reading y) h (answer_code result) (answer_value result) }
 {

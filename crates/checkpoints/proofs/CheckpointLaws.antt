@@ -1,7 +1,7 @@
 -- What a slot holds after a state was kept, and before.
 use Prim.Native.Nat.{ℕ, zero, suc, ◌+◌, ◌-◌, ◌≤◌, ◌<◌}
 use mathlib.Core.Path.{◌≡◌, refl, sym, ap, ◌∙◌}
-use mathlib.Core.Bool.{Bool, true, false, ◌&&◌}
+use mathlib.Core.Bool.{Bool, true, false, ◌&&◌, true≢false, false≢true}
 use mathlib.Core.List.{List, [], ◌++◌, append-nil}
 use native.Mathlib.Omega.{arith}
 use borrow.Author.Tests.{ltb-true, leb-true, lt-ltb, le-ltb, le-leb, lt-leb, eqb-true, ne_eqb}
@@ -9,14 +9,13 @@ use lib.Dec.{eqb, ltb, leb, eqb-suc-zero}
 use lib.ListN.{length, length-drop, take, drop, take-append-drop, drop_of_length-le}
 use lib.Seq.{length-sets, sets}
 use Rattle.integers.proofs.Tests.{both}
-use Rattle.state.specs.Rejections.{unless, ◌then◌, accepting, outcome, outcome_code, short_buffer, no_checkpoint}
+use Rattle.state.specs.Rejections.{unless, ◌then◌, accepting, outcome, outcome_code, short_buffer, no_checkpoint, rejects, IsCode, Outcome}
+use Rattle.state.specs.declared.Rejection.{Rejection}
 use Rattle.state.specs.States.{Typed, check}
 use Rattle.state.specs.declared.State.{State}
-use Rattle.state.specs.declared.Outcome.{Outcome}
-use Rattle.state.specs.declared.Outcome.TheVariants as OutcomeOf
-use Rattle.state.proofs.Answers.{outcome-code, outcome-accepted}
+use Rattle.state.proofs.Answers.{outcome-code, given-rejected, check-ends, check-passes, rejected-by, code-unless}
 use Rattle.state.proofs.Passing.{bounded}
-use Rattle.state.proofs.Tests.{then-zero, unless-zero}
+use Rattle.state.proofs.Tests.{then-zero, unless-zero, then-first}
 use Rattle.layout.specs.Bytes.{AreBytes}
 use Rattle.layout.specs.Layout.{size_of}
 use Rattle.layout.specs.CommandTable.{command_size, is_command}
@@ -32,6 +31,7 @@ use Rattle.round_trips.proofs.RoundTrip.{read_back, decoded-typed}
 use Rattle.checkpoints.specs.Checkpoints.{slots, slot_size, checkpoints_size, slot_at, slot_in, no_checkpoints, store_code, store, stored_bytes, is_held, restore_code, nothing_kept, restore}
 use Rattle.checkpoints.specs.Promises.{StoresBack, Restored, NothingKept}
 use Rattle.checkpoints.proofs.SlotLaws.{put-at, same-slot, other-slot}
+use Rattle.std.specs.Prelude.{⊤, Ok, Err, is_ok, IsErrAnd}
 
 -- what was let pass: the state, one of the four slots, room for all of them
 pub record Storable (s : State) (slot room : ℕ) : Type 0 where
@@ -88,22 +88,31 @@ module _ (s : State) (slot : ℕ) (d : List ℕ) (h : slot < 4) (k : 2204 ≤ le
       rw (none, append-nil ys, e, f, part, q) (same_answer, same_bytes)
 
 -- ---- a rejected one leaves the buffer
-some_first : (n k : ℕ) → eqb (n then suc k) 0 ≡ false
-some_first zero k = eqb-suc-zero k
-some_first (suc n) k = rw (eqb-suc-zero n) (eqb-suc-zero n)
-
 module _ (s : State) (slot : ℕ) (d : List ℕ) where
-  refused : (k : ℕ) → store_code s slot (length d) ≡ (check s then suc k) → (OutcomeOf.Rejected (check s then suc k) ≡ store s slot (length d)) × (d ≡ stored_bytes s slot d)
-  unfolding store stored_bytes
-  refused k e = rw (e, some_first (check s) k) (refl, refl)
+  pub unstored : (store_code s slot (length d) ≡ 0 → ⊥) → d ≡ stored_bytes s slot d
+  unfolding stored_bytes
+  unstored h = rw (ne_eqb (store_code s slot (length d)) 0 h)
 
-  pub no_slot : slots ≤ slot → (OutcomeOf.Rejected (check s then no_checkpoint) ≡ store s slot (length d)) × (d ≡ stored_bytes s slot d)
+  pub no_slot : slots ≤ slot → store_code s slot (length d) ≡ (check s then no_checkpoint)
   unfolding store_code
-  no_slot h = refused 20 (rw (le-ltb slot slots h))
+  no_slot h = rw (le-ltb slot slots h)
 
-  pub no_room : slot < slots → length d < checkpoints_size → (OutcomeOf.Rejected (check s then short_buffer) ≡ store s slot (length d)) × (d ≡ stored_bytes s slot d)
+  pub no_room : slot < slots → length d < checkpoints_size → store_code s slot (length d) ≡ (check s then short_buffer)
   unfolding store_code
-  no_room h k = refused 11 (rw (lt-ltb slot slots h, lt-leb checkpoints_size (length d) k))
+  no_room h k = rw (lt-ltb slot slots h, lt-leb checkpoints_size (length d) k)
+
+  -- the state's own rejection, and the next one
+  pub refused : (k : ℕ) {e : Rejection} {r : Outcome} → store_code s slot (length d) ≡ (check s then k) → Err e ≡ outcome (check s) → IsErrAnd r (λ y. y ≡ e) → (r ≡ store s slot (length d)) × (d ≡ stored_bytes s slot d)
+  unfolding store
+  refused k q e h =
+      let g = given-rejected (check s) tt _ (sym e) in
+      (rw q (check-ends (check s) k tt e h), unstored (rw (q, then-first (check s) k g.1) g.1))
+
+  pub refused_next : (k : ℕ) {t : ⊤} → store_code s slot (length d) ≡ (check s then suc k) → Ok t ≡ outcome (check s) → (rejects (suc k) ≡ store s slot (length d)) × (d ≡ stored_bytes s slot d)
+  unfolding store
+  refused_next k q e =
+      let p = check-passes (check s) e in
+      (rw (q, p) (sym (rejected-by k tt)), unstored (rw (q, p) (λ z. omega arith)))
 
 -- a slot that holds something
 pub held : (slot : ℕ) (d : List ℕ) → slot < 4 → 2204 ≤ length d → open_code (slot_in d slot) ≡ 0 → is_held slot d ≡ true
@@ -127,19 +136,23 @@ pub restored-outcome : (slot : ℕ) (d : List ℕ) → (restore slot d).outcome 
 unfolding restore restore_code
 restored-outcome slot d = go (is_held slot d)
   where
-    go : (b : Bool) → (accepting (unless b no_checkpoint) (record { outcome = OutcomeOf.Accepted; state = decoded (slot_in d slot) }) (λ (n : ℕ). nothing_kept)).outcome ≡ outcome (unless b no_checkpoint)
+    go : (b : Bool) → (accepting (unless b no_checkpoint) (record { outcome = Ok tt; state = decoded (slot_in d slot) }) (λ (n : ℕ). nothing_kept)).outcome ≡ outcome (unless b no_checkpoint)
     go true = refl
     go false = refl
 
+pub code-restore : (slot : ℕ) (d : List ℕ) → IsCode (restore_code slot d)
+unfolding restore_code
+code-restore slot d = code-unless (is_held slot d) no_checkpoint (omega arith)
+
 pub restored-code : (slot : ℕ) (d : List ℕ) → outcome_code (restore slot d).outcome ≡ restore_code slot d
-restored-code slot d = ap outcome_code (restored-outcome slot d) ∙ outcome-code (restore_code slot d)
+restored-code slot d = ap outcome_code (restored-outcome slot d) ∙ outcome-code (restore_code slot d) (code-restore slot d)
 
 -- a name holds a state, or nothing
 pub restored-none : (slot : ℕ) (d : List ℕ) → (restore_code slot d ≡ 0 → ⊥) → restore slot d ≡ nothing_kept
 unfolding restore restore_code
 restored-none slot d h = go (is_held slot d) h
   where
-    go : (b : Bool) → (unless b no_checkpoint ≡ 0 → ⊥) → accepting (unless b no_checkpoint) (record { outcome = OutcomeOf.Accepted; state = decoded (slot_in d slot) }) (λ (n : ℕ). nothing_kept) ≡ nothing_kept
+    go : (b : Bool) → (unless b no_checkpoint ≡ 0 → ⊥) → accepting (unless b no_checkpoint) (record { outcome = Ok tt; state = decoded (slot_in d slot) }) (λ (n : ℕ). nothing_kept) ≡ nothing_kept
     go true h = absurd (h refl)
     go false h = refl
 
@@ -147,9 +160,14 @@ pub stored-code : (s : State) (slot room : ℕ) → check s ≡ 0 → slot < slo
 unfolding store_code
 stored-code s slot room z h k = rw (z, lt-ltb slot slots h, le-leb checkpoints_size room k)
 
-outcome-rejected : (k n : ℕ) → outcome k ≡ OutcomeOf.Rejected n → k ≡ 0 → ⊥
-outcome-rejected zero n e q = let z : ◌≡◌ {A = ℕ} 0 1 = cc in omega arith
-outcome-rejected (suc k) n e q = omega arith
+-- an outcome of a rejection
+accepted-code : (n : ℕ) → is_ok (outcome n) ≡ true → n ≡ 0
+accepted-code zero e = refl
+accepted-code (suc n) e = absurd (false≢true (ap is_ok (sym (rejected-by n tt)) ∙ e))
+
+rejected-code : (n : ℕ) → is_ok (outcome n) ≡ false → n ≡ 0 → ⊥
+rejected-code zero e q = true≢false e
+rejected-code (suc n) e q = omega arith
 
 -- ---- going back: by the slot, the room, and what its bytes read as
 module _ (slot : ℕ) (d : List ℕ) where
@@ -162,20 +180,20 @@ module _ (slot : ℕ) (d : List ℕ) where
   none-short h k = rw (lt-ltb slot slots h, lt-leb checkpoints_size (length d) k)
 
   module _ (h : slot < slots) (k : checkpoints_size ≤ length d) (g : Opened) (e : g ≡ read (slot_in d slot)) where
-    code_of : {o : Outcome} → g.outcome ≡ o → outcome (open_code (slot_in d slot)) ≡ o
+    code_of : {b : Bool} → is_ok g.outcome ≡ b → is_ok (outcome (open_code (slot_in d slot))) ≡ b
     unfolding read
-    code_of q = sym (ap (λ (g : Opened). g.outcome) e) ∙ q
+    code_of q = ap (λ (g : Opened). is_ok g.outcome) (sym e) ∙ q
 
-    pub found : g.outcome ≡ OutcomeOf.Accepted → g ≡ restore slot d
+    pub found : is_ok g.outcome ≡ true → g ≡ restore slot d
     unfolding restore restore_code read
     found q =
-        let z = outcome-accepted (open_code (slot_in d slot)) (code_of q) in
+        let z = accepted-code (open_code (slot_in d slot)) (code_of q) in
         rw (e, held slot d h k z, z)
 
-    pub found_none : (n : ℕ) → g.outcome ≡ OutcomeOf.Rejected n → nothing_kept ≡ restore slot d
+    pub found_none : is_ok g.outcome ≡ false → nothing_kept ≡ restore slot d
     unfolding restore restore_code is_held
-    found_none n q =
-        let z = outcome-rejected (open_code (slot_in d slot)) n (code_of q) in
+    found_none q =
+        let z = rejected-code (open_code (slot_in d slot)) (code_of q) in
         rw (lt-ltb slot slots h, le-leb checkpoints_size (length d) k, ne_eqb (open_code (slot_in d slot)) 0 z)
 
 -- ---- a state that was kept

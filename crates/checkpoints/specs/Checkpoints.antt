@@ -1,11 +1,9 @@
 -- Document 02, W-209: states kept to go back to. A slot is the part of a lent buffer that one of the paper's names has; it holds the snapshot (the paper's group) of the state kept.
-use Rattle.std.specs.Prelude.{ℕ, ◌*◌, Bool, ◌&&◌, List, eqb, ltb, leb, length, take, drop, replicate}
+use Rattle.std.specs.Prelude.{ℕ, ◌*◌, Bool, ◌&&◌, List, eqb, ltb, leb, length, take, drop, replicate, Ok}
 use Rattle.std.proofs.lemmas.List.Edits.{sets}
-use Rattle.state.specs.Rejections.{unless, ◌then◌, accepting, outcome, short_buffer, no_checkpoint}
+use Rattle.state.specs.Rejections.{unless, ◌then◌, accepting, outcome, short_buffer, no_checkpoint, rejects, Outcome}
 use Rattle.state.specs.States.{check, no_state}
 use Rattle.state.specs.declared.State.{State}
-use Rattle.state.specs.declared.Outcome.{Outcome}
-use Rattle.state.specs.declared.Outcome.TheVariants as OutcomeOf
 use Rattle.layout.specs.Layout.{size_of}
 use Rattle.snapshot.specs.Snapshots.{open_code, decoded}
 use Rattle.snapshot.specs.declared.Opened.{Opened}
@@ -55,9 +53,9 @@ unfoldable pub restore_code : ℕ → List ℕ → ℕ
 restore_code slot d = unless (is_held slot d) no_checkpoint
 
 abbrev pub nothing_kept : Opened
-nothing_kept = record { outcome = OutcomeOf.Rejected no_checkpoint; state = no_state }
+nothing_kept = record { outcome = rejects no_checkpoint; state = no_state }
 
 -- the call: the state kept, or the rejection; the buffer stays as it is
 unfoldable pub restore : ℕ → List ℕ → Opened
 restore slot d =
-    accepting (restore_code slot d) (record { outcome = OutcomeOf.Accepted; state = decoded (slot_in d slot) }) (λ (n : ℕ). nothing_kept)
+    accepting (restore_code slot d) (record { outcome = Ok tt; state = decoded (slot_in d slot) }) (λ (n : ℕ). nothing_kept)

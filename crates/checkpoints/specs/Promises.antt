@@ -1,14 +1,13 @@
 -- The promises about keeping a state and going back to it.
-use Rattle.std.specs.Prelude.{ℕ, ◌≡◌, List, length}
+use Rattle.std.specs.Prelude.{ℕ, ◌≡◌, List, length, Ok}
 use Rattle.state.specs.States.{Typed, check}
 use Rattle.state.specs.declared.State.{State}
-use Rattle.state.specs.declared.Outcome.TheVariants as OutcomeOf
 use Rattle.layout.specs.Bytes.{AreBytes}
 use Rattle.checkpoints.specs.Checkpoints.{no_checkpoints, store_code, stored_bytes, restore_code, nothing_kept, restore}
 
 -- a state that was kept is brought back whole, and every other name holds what it held
 pub record StoredBack (s : State) (slot : ℕ) (d : List ℕ) : Type 0 where
-  pub same : restore slot (stored_bytes s slot d) ≡ record { outcome = OutcomeOf.Accepted; state = s }
+  pub same : restore slot (stored_bytes s slot d) ≡ record { outcome = Ok tt; state = s }
   pub others : (other : ℕ) → (other ≡ slot → ⊥) → restore other (stored_bytes s slot d) ≡ restore other d
   pub size : length (stored_bytes s slot d) ≡ length d
 

@@ -10,7 +10,7 @@ use checks::check;
 use layout::MAX_SIZE;
 use saving::save;
 use snapshot::{Opened, read};
-use state::{NO_CHECKPOINT, Outcome, SHORT_BUFFER, State, first, no_state};
+use state::{Rejection, State, no_state};
 
 // The names 0 to 3.
 pub const SLOTS: u8 = 4;
@@ -29,15 +29,17 @@ fn slot_at(slot: u8) -> usize
 }
 
 // Keeps a state, whole, as its snapshot in a slot; the other slots stay. The state is checked once: by `save`, or where the slot or the room is rejected.
-pub fn store(s: State, slot: u8, checkpoints: &mut [u8]) -> Outcome
+pub fn store(s: State, slot: u8, checkpoints: &mut [u8]) -> Result<(), Rejection>
     ensures answer { result ≡ store s slot (length checkpoints.old) }
     ensures bytes { checkpoints.new ≡ stored_bytes s slot checkpoints.old }
 {
     if SLOTS <= slot {
-        return Outcome::Rejected(first(check(s), NO_CHECKPOINT));
+        check(s)?;
+        return Err(Rejection::NoCheckpoint);
     }
     if checkpoints.len() < CHECKPOINTS_SIZE {
-        return Outcome::Rejected(first(check(s), SHORT_BUFFER));
+        check(s)?;
+        return Err(Rejection::ShortBuffer);
     }
     let at = slot_at(slot);
     save(s, &mut checkpoints[at..])
@@ -47,7 +49,7 @@ fn nothing_kept() -> Opened
     ensures { result ≡ nothing_kept }
 {
     Opened {
-        outcome: Outcome::Rejected(NO_CHECKPOINT),
+        outcome: Err(Rejection::NoCheckpoint),
         state: no_state(),
     }
 }
@@ -65,9 +67,9 @@ pub fn restore(slot: u8, checkpoints: &[u8]) -> Opened
     let from = slot_at(slot);
     let to = from + SLOT_SIZE;
     let found = read(&checkpoints[from..to]);
-    let outcome = found.outcome;
-    match outcome {
-        Outcome::Accepted => found,
-        Outcome::Rejected(_) => nothing_kept(),
+    if found.outcome.is_ok() {
+        found
+    } else {
+        nothing_kept()
     }
 }

@@ -4,11 +4,12 @@
 pub mod switching;
 
 ghost use Rattle.std.specs.Prelude.{◌≡◌};
+ghost use Rattle.state.specs.Rejections.{outcome};
 ghost use Rattle.state.specs.States.{seasonal_ok, values_ok, position_ok, check};
 
 use models::{model_ok, period_ok};
-use ranges::{cell_ok, count_ok, in_range, index_ok, parameters_code, score_ok, trend_ok};
-use state::{BAD_MODEL, BAD_PERIOD, BAD_POSITION, BAD_SCORE, BAD_VALUE, State, first, unless};
+use ranges::{cell_ok, check_parameters, count_ok, in_range, index_ok, score_ok, trend_ok};
+use state::{Rejection, State, unless};
 
 fn seasonal_ok(m: usize, cells: &[i64; 48]) -> bool
     ensures { result ≡ seasonal_ok m cells.now }
@@ -34,15 +35,14 @@ fn position_ok(s: State) -> bool
     index_ok(s.period, s.index) & count_ok(s.count)
 }
 
-// The rejection of a state handed in, or 0.
-pub fn check(s: State) -> u8
-    ensures { result ≡ check s }
+// What rejects a state handed in.
+pub fn check(s: State) -> Result<(), Rejection>
+    ensures { result ≡ outcome (check s) }
 {
-    let parameters = parameters_code(s.outside, s.model, s.alpha, s.beta, s.gamma, s.phi);
-    let mut code = unless(model_ok(s.model), BAD_MODEL);
-    code = first(code, unless(period_ok(s.model, s.period), BAD_PERIOD));
-    code = first(code, parameters);
-    code = first(code, unless(values_ok(s), BAD_VALUE));
-    code = first(code, unless(position_ok(s), BAD_POSITION));
-    first(code, unless(score_ok(s.count, s.score), BAD_SCORE))
+    unless(model_ok(s.model), Rejection::BadModel)?;
+    unless(period_ok(s.model, s.period), Rejection::BadPeriod)?;
+    check_parameters(s.outside, s.model, s.alpha, s.beta, s.gamma, s.phi)?;
+    unless(values_ok(s), Rejection::BadValue)?;
+    unless(position_ok(s), Rejection::BadPosition)?;
+    unless(score_ok(s.count, s.score), Rejection::BadScore)
 }

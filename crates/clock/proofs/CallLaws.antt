@@ -10,11 +10,10 @@ use lib.IntN.{ℤ, pos, ◌+ℤ◌}
 use lib.ListN.{length, get_or, drop}
 use borrow.Author.Tests.{eqb-true, le-leb}
 use Rattle.calendars.specs.Calendars.{Calendar, no_changes, rising, disjoint}
-use Rattle.state.specs.Rejections.{◌then◌, accepting, answer}
+use Rattle.state.specs.Rejections.{◌then◌, accepting, answer, rejects}
 use Rattle.models.specs.Models.{ties_to_even}
 use Rattle.state.specs.States.{check}
 use Rattle.state.specs.declared.State.{State}
-use Rattle.state.specs.declared.Answer.TheVariants as AnswerOf
 use Rattle.state.proofs.Passing.{valid}
 use Rattle.state.proofs.Tests.{then-zero}
 use Rattle.calendars.specs.Turns.{turn_from}
@@ -30,6 +29,7 @@ use Rattle.forecasts.proofs.ForecastLaws.{forecast-ready}
 use Rattle.forecasts.proofs.MissingLaws.{line_on}
 use Rattle.forecasts.proofs.CalendarLaws.{forecast-unchanged, list-unchanged}
 use Rattle.clock.specs.Promises.{EmptyLists, MissingForecasts}
+use Rattle.std.specs.Prelude.{Ok}
 
 -- a check that rejects nothing, after others
 last-zero : (n m : ℕ) → m ≡ 0 → (n then m) ≡ n
@@ -76,7 +76,7 @@ module _ (s : State) (day : s.period ≡ 24) where
   unfolding forecast_on forecast_to
   one h =
       rw (forecast-code h)
-      (choose (forecast_code s h) _ _ AnswerOf.Rejected (λ z. let r = forecast-ready max_horizon s h z in ap AnswerOf.Accepted (forecast-unchanged s (valid s r.valid) h r.least)))
+      (choose (forecast_code s h) _ _ rejects (λ z. let r = forecast-ready max_horizon s h z in ap Ok (forecast-unchanged s (valid s r.valid) h r.least)))
 
   cells : (h : ℕ) (held : List ℤ) → forecast_cells_on no_changes s h held ≡ forecast_cells s h held
   unfolding forecast_cells_on forecast_cells_to forecasts_code_to

@@ -13,7 +13,6 @@ use Rattle.calendars.specs.Calendars.{Calendar}
 use Rattle.state.specs.Rejections.{unless, bad_calendar}
 use Rattle.state.specs.States.{check}
 use Rattle.state.specs.declared.State.{State}
-use Rattle.state.specs.declared.Answer.TheVariants as AnswerOf
 use Rattle.state.proofs.Answers.{answer-accepted}
 use Rattle.state.proofs.Tests.{then-zero, unless-zero}
 use Rattle.ets.specs.Calendars.{calendar_code}
@@ -21,6 +20,7 @@ use Rattle.forecasts.specs.Calendars.{place_by, forecast_by}
 use Rattle.clock.specs.Windows.{window_ok, in_window, inside_to, inside, is_some, largest, window_code, window_maximum}
 use Rattle.clock.specs.Promises.{IsLargest, WindowMaxima}
 use Rattle.clock.proofs.WindowLaws.{some_next, best-next}
+use Rattle.std.specs.Prelude.{Ok}
 
 or-true : (x : Bool) → (x || true) ≡ true
 or-true true = refl
@@ -118,7 +118,7 @@ module _ (k : Calendar) (s : State) (start end : ℕ) where
       go (inr o) true ey false ez = inr (old o true ey (best-is i true true false o.some ey ez) (λ _. at_most (best i) v ez))
 
 -- ---- the call
-module _ (k : Calendar) (s : State) (start end : ℕ) (v : ℤ) (e : window_maximum k s start end ≡ AnswerOf.Accepted v) where
+module _ (k : Calendar) (s : State) (start end : ℕ) (v : ℤ) (e : window_maximum k s start end ≡ Ok v) where
   told : (window_code k s start end ≡ 0) × (largest (inside k s start end) ≡ v)
   unfolding window_maximum
   told = answer-accepted (window_code k s start end) (largest (inside k s start end)) v e

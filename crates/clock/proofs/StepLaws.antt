@@ -13,11 +13,9 @@ use Rattle.calendars.specs.declared.Walked.{Walked}
 use Rattle.calendars.proofs.ListLaws.{rises, behind-start}
 use Rattle.calendars.proofs.WalkLaws.{walked-is}
 use Rattle.integers.proofs.Tests.{both, cond-elim}
-use Rattle.state.specs.Rejections.{◌then◌, bad_calendar, by_answer, by_outcome}
+use Rattle.state.specs.Rejections.{◌then◌, bad_calendar, rejects, Outcome}
 use Rattle.state.specs.States.{index_ok, check}
 use Rattle.state.specs.declared.State.{State}
-use Rattle.state.specs.declared.Answer.TheVariants as AnswerOf
-use Rattle.state.specs.declared.Outcome.TheVariants as OutcomeOf
 use Rattle.state.proofs.Tests.{then-zero}
 use Rattle.calendars.specs.Turns.{Turn, next_index}
 use Rattle.ets.specs.Steps.{turn, damped_trend, season_by, seasonal_by, advanced, residual_by, after_reading_by, after_missing_by, step_code_by, step_code, missing_code, residual_of, after_reading, after_missing, step, missing}
@@ -25,6 +23,7 @@ use Rattle.ets.specs.Calendars.{calendar_code, step_code_on, missing_code_on, st
 use Rattle.ets.specs.declared.Stepped.{Stepped}
 use Rattle.ets.specs.declared.Missed.{Missed}
 use Rattle.ets.proofs.CalendarLaws.{followed, placed, turned, placed-check, skips, repeats}
+use Rattle.std.specs.Prelude.{Ok, is_ok}
 
 -- the turn of a call's first step, by the walk from the start of both lists
 pub first-turn : (k : Calendar) (m p n : ℕ) (at : Cursors) (w : Walked) → calendar_code m k ≡ 0 → at ≡ record { skipped = 0; repeated = 0 } → w ≡ walked k at m p n → IsTurn k m p n w
@@ -65,40 +64,43 @@ module _ (k : Calendar) (s : State) where
     unfolding missing_code_on missing_code advanced damped_trend
     missing-code = rw (z, same)
 
-    pub step-followed : (y : ℤ) → step_on k s y ≡ record { state = placed (step t y).state (by_answer (step t y).residual (λ _. (turn k s).next) (λ _. s.index)); residual = (step t y).residual }
+    pub step-followed : (y : ℤ) → step_on k s y ≡ record { state = placed (step t y).state (cond (is_ok (step t y).residual) (turn k s).next s.index); residual = (step t y).residual }
     unfolding step_on step damped_trend season_by seasonal_by
     step-followed y = rw (step-code y) (go (step_code t y) (eqb (step_code t y) 0))
       where
-        go : (n : ℕ) (b : Bool) → ◌≡◌ {A = Stepped} (record { state = cond b (after_reading_by k s y) s; residual = cond b (AnswerOf.Accepted (residual_by k s y)) (AnswerOf.Rejected n) })
-            (record { state = placed (cond b (after_reading t y) t) (by_answer (cond b (AnswerOf.Accepted (residual_of t y)) (AnswerOf.Rejected n)) (λ _. (turn k s).next) (λ _. s.index)); residual = cond b (AnswerOf.Accepted (residual_of t y)) (AnswerOf.Rejected n) })
+        go : (n : ℕ) (b : Bool) → ◌≡◌ {A = Stepped} (record { state = cond b (after_reading_by k s y) s; residual = cond b (Ok (residual_by k s y)) (rejects n) })
+            (record { state = placed (cond b (after_reading t y) t) (cond (is_ok (cond b (Ok (residual_of t y)) (rejects n))) (turn k s).next s.index); residual = cond b (Ok (residual_of t y)) (rejects n) })
         go n true = refl
         go n false = refl
 
-    pub missing-followed : missing_on k s ≡ record { state = placed (missing t).state (by_outcome (missing t).outcome (turn k s).next (λ _. s.index)); outcome = (missing t).outcome }
+    pub missing-followed : missing_on k s ≡ record { state = placed (missing t).state (cond (is_ok (missing t).outcome) (turn k s).next s.index); outcome = (missing t).outcome }
     unfolding missing_on missing advanced damped_trend
     missing-followed = rw missing-code (go (missing_code t) (eqb (missing_code t) 0))
       where
-        go : (n : ℕ) (b : Bool) → ◌≡◌ {A = Missed} (record { state = cond b (after_missing_by k s) s; outcome = cond b OutcomeOf.Accepted (OutcomeOf.Rejected n) })
-            (record { state = placed (cond b (after_missing t) t) (by_outcome (cond b OutcomeOf.Accepted (OutcomeOf.Rejected n)) (turn k s).next (λ _. s.index)); outcome = cond b OutcomeOf.Accepted (OutcomeOf.Rejected n) })
+        done : ℕ → Bool → Outcome
+        done n b = cond b (Ok tt) (rejects n)
+
+        go : (n : ℕ) (b : Bool) → ◌≡◌ {A = Missed} (record { state = cond b (after_missing_by k s) s; outcome = done n b })
+            (record { state = placed (cond b (after_missing t) t) (cond (is_ok (done n b)) (turn k s).next s.index); outcome = done n b })
         go n true = refl
         go n false = refl
 
     -- as the code builds them
-    pub step-built : (y : ℤ) (u q p : ℕ) (r : Stepped) → u ≡ (turn k s).used → q ≡ (turn k s).next → r ≡ step (placed s u) y → p ≡ by_answer r.residual (λ _. q) (λ _. s.index) → record { state = placed r.state p; residual = r.residual } ≡ step_on k s y
-    step-built y u q p r eu eq er ep = rw (ep, er, eq, eu) (sym (step-followed y))
+    pub step-built : (y : ℤ) (u q : ℕ) (r : Stepped) (b : Bool) → u ≡ (turn k s).used → q ≡ (turn k s).next → r ≡ step (placed s u) y → b ≡ is_ok r.residual → record { state = placed r.state (cond b q s.index); residual = r.residual } ≡ step_on k s y
+    step-built y u q r b eu eq er eb = rw (eb, er, eq, eu) (sym (step-followed y))
 
-    pub missing-built : (u q p : ℕ) (r : Missed) → u ≡ (turn k s).used → q ≡ (turn k s).next → r ≡ missing (placed s u) → p ≡ by_outcome r.outcome q (λ _. s.index) → record { state = placed r.state p; outcome = r.outcome } ≡ missing_on k s
-    missing-built u q p r eu eq er ep = rw (ep, er, eq, eu) (sym missing-followed)
+    pub missing-built : (u q : ℕ) (r : Missed) (b : Bool) → u ≡ (turn k s).used → q ≡ (turn k s).next → r ≡ missing (placed s u) → b ≡ is_ok r.outcome → record { state = placed r.state (cond b q s.index); outcome = r.outcome } ≡ missing_on k s
+    missing-built u q r b eu eq er eb = rw (eb, er, eq, eu) (sym missing-followed)
 
   -- ---- with others
-  rejects : (check s then bad_calendar) ≡ 0 → ⊥
-  rejects e = let z = (then-zero (check s) bad_calendar e).1 in omega arith
+  is-rejected : (check s then bad_calendar) ≡ 0 → ⊥
+  is-rejected e = let z = (then-zero (check s) bad_calendar e).1 in omega arith
 
   module _ (z : calendar_code s.period k ≡ bad_calendar) where
-    pub step-unfollowed : (y : ℤ) → step_on k s y ≡ record { state = s; residual = AnswerOf.Rejected (check s then bad_calendar) }
+    pub step-unfollowed : (y : ℤ) → step_on k s y ≡ record { state = s; residual = rejects (check s then bad_calendar) }
     unfolding step_on step_code_on
-    step-unfollowed y = let e = ne_eqb (check s then bad_calendar) 0 rejects in rw (z, e)
+    step-unfollowed y = let e = ne_eqb (check s then bad_calendar) 0 is-rejected in rw (z, e)
 
-    pub missing-unfollowed : missing_on k s ≡ record { state = s; outcome = OutcomeOf.Rejected (check s then bad_calendar) }
+    pub missing-unfollowed : missing_on k s ≡ record { state = s; outcome = rejects (check s then bad_calendar) }
     unfolding missing_on missing_code_on
-    missing-unfollowed = let e = ne_eqb (check s then bad_calendar) 0 rejects in rw (z, e)
+    missing-unfollowed = let e = ne_eqb (check s then bad_calendar) 0 is-rejected in rw (z, e)

@@ -1,7 +1,9 @@
 -- What a private function chooses by: a number that is larger than those before it.
-use Rattle.std.specs.Prelude.{Bool, cond, not, ◌&&◌, ◌||◌, ℤ}
-use Rattle.std.specs.Int.Signed.{lt_z}
+use Rattle.std.specs.Prelude.{Bool, true, false, ℤ, Option, Some, None}
+use Rattle.clock.specs.Windows.{larger}
 
--- the best so far after v, of which there is one where `some`
-abbrev pub raised : Bool → Bool → ℤ → ℤ → ℤ
-raised taken some best v = cond (taken && (not some || lt_z best v)) v best
+-- the largest so far after v, which counts where `taken`
+abbrev pub raised : Bool → Option ℤ → ℤ → Option ℤ
+raised false best v = best
+raised true None v = Some v
+raised true (Some b) v = Some (larger b v)

@@ -1,8 +1,7 @@
 -- Document 02, W-208: what holds of the calls that take lists of clock changes.
-use Rattle.std.specs.Prelude.{ℕ, ◌+◌, ◌≤◌, ◌<◌, true, List, ◌≡◌, ℤ, ◌≤ℤ◌}
+use Rattle.std.specs.Prelude.{ℕ, ◌+◌, ◌≤◌, ◌<◌, true, List, ◌≡◌, ℤ, ◌≤ℤ◌, Ok}
 use Rattle.calendars.specs.Calendars.{Calendar, no_changes}
 use Rattle.state.specs.declared.State.{State}
-use Rattle.state.specs.declared.Answer.TheVariants as AnswerOf
 use Rattle.ets.specs.Steps.{step, missing}
 use Rattle.ets.specs.Batches.{batch, batch_levels}
 use Rattle.ets.specs.Calendars.{missing_code_on, step_on, missing_on, batch_on, batch_levels_on}
@@ -46,7 +45,7 @@ pub record IsLargest (k : Calendar) (s : State) (start end : ℕ) (v : ℤ) : Ty
   pub others : (h : ℕ) → 1 ≤ h → h ≤ 24 → in_window start end (place_by k s h) ≡ true → forecast_by k s h ≤ℤ v
 
 abbrev pub WindowMaxima : Type 0
-WindowMaxima = (k : Calendar) (s : State) (start end : ℕ) (v : ℤ) → window_maximum k s start end ≡ AnswerOf.Accepted v → IsLargest k s start end v
+WindowMaxima = (k : Calendar) (s : State) (start end : ℕ) (v : ℤ) → window_maximum k s start end ≡ Ok v → IsLargest k s start end v
 
 pub record CalendarLaws : Type 0 where
   pub empty : EmptyLists

@@ -2,10 +2,9 @@
 use Rattle.std.specs.Prelude.{ℕ, zero, suc, Bool, true, false, cond, ◌&&◌, ◌||◌, List, [], ◌∷◌, ◌++◌, ltb, leb, ℤ, pos}
 use Rattle.std.specs.Int.Signed.{lt_z}
 use Rattle.calendars.specs.Calendars.{Calendar}
-use Rattle.state.specs.Rejections.{unless, ◌then◌, answer, bad_calendar}
+use Rattle.state.specs.Rejections.{unless, ◌then◌, answer, bad_calendar, Answer}
 use Rattle.state.specs.States.{check}
 use Rattle.state.specs.declared.State.{State}
-use Rattle.state.specs.declared.Answer.{Answer}
 use Rattle.ets.specs.Calendars.{calendar_code}
 use Rattle.forecasts.specs.Calendars.{place_by, forecast_by}
 

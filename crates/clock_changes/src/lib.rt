@@ -5,32 +5,25 @@
 ghost use Rattle.std.specs.Prelude.{◌≡◌};
 ghost use Rattle.calendars.specs.Calendars.{calendar_of};
 ghost use Rattle.ets.specs.Calendars.{step_on, missing_on};
-ghost use Rattle.state.specs.Rejections.{by_answer, by_outcome};
+ghost use Rattle.state.specs.Rejections.{◌then◌, rejection_of, bad_calendar};
+ghost use Rattle.state.specs.States.{check};
 
 use checks::check;
 use ets::{Missed, Stepped};
 pub use forecasting::changes::{forecast_on, forecasts_on};
-use state::{Answer, BAD_CALENDAR, Outcome, State, first};
+use state::{Rejection, State};
 use turns::{calendar_ok, start, walk};
 pub use updates::batches::batch_on;
 use updates::steps::{missing, step};
 pub use windows::window_maximum;
 
-fn by_answer(done: Answer, accepted: u8, rejected: u8) -> u8
-    ensures { result ≡ by_answer done (λ _. accepted) (λ _. rejected) }
+// What rejects a call by lists that it can't follow: the state's checks, then 20.
+fn calendar_rejection(s: State) -> Rejection
+    ensures { result ≡ rejection_of (check s then bad_calendar) }
 {
-    match done {
-        Answer::Accepted(_) => accepted,
-        Answer::Rejected(_) => rejected,
-    }
-}
-
-fn by_outcome(done: Outcome, accepted: u8, rejected: u8) -> u8
-    ensures { result ≡ by_outcome done accepted (λ _. rejected) }
-{
-    match done {
-        Outcome::Accepted => accepted,
-        Outcome::Rejected(_) => rejected,
+    match check(s) {
+        Ok(()) => Rejection::BadCalendar,
+        Err(rejection) => rejection,
     }
 }
 
@@ -41,7 +34,7 @@ pub fn step_on(s: State, skipped: &[u64], repeated: &[u64], y: i32) -> Stepped
     if !calendar_ok(s.period, skipped, repeated) {
         return Stepped {
             state: s,
-            residual: Answer::Rejected(first(check(s), BAD_CALENDAR)),
+            residual: Err(calendar_rejection(s)),
         };
     }
     let t = walk(skipped, repeated, start(), s.period, s.index, s.count);
@@ -50,7 +43,7 @@ pub fn step_on(s: State, skipped: &[u64], repeated: &[u64], y: i32) -> Stepped
     let done = step(from, y);
     let residual = done.residual;
     let mut next = done.state;
-    next.index = by_answer(residual, t.next, s.index);
+    next.index = if residual.is_ok() { t.next } else { s.index };
     Stepped {
         state: next,
         residual,
@@ -64,7 +57,7 @@ pub fn missing_on(s: State, skipped: &[u64], repeated: &[u64]) -> Missed
     if !calendar_ok(s.period, skipped, repeated) {
         return Missed {
             state: s,
-            outcome: Outcome::Rejected(first(check(s), BAD_CALENDAR)),
+            outcome: Err(calendar_rejection(s)),
         };
     }
     let t = walk(skipped, repeated, start(), s.period, s.index, s.count);
@@ -73,7 +66,7 @@ pub fn missing_on(s: State, skipped: &[u64], repeated: &[u64]) -> Missed
     let done = missing(from);
     let outcome = done.outcome;
     let mut next = done.state;
-    next.index = by_outcome(outcome, t.next, s.index);
+    next.index = if outcome.is_ok() { t.next } else { s.index };
     Missed {
         state: next,
         outcome,

@@ -4,29 +4,22 @@ use mathlib.Core.Path.{◌≡◌, refl, sym, ap, ◌∙◌}
 use mathlib.Core.Bool.{Bool, true, false, cond}
 use mathlib.Core.List.{List}
 use native.Mathlib.Omega.{arith}
-use borrow.Author.Tests.{leb-true}
+use borrow.Author.Tests.{leb-true, ne_eqb}
 use lib.Dec.{eqb, leb}
 use lib.IntN.{ℤ}
 use lib.Ieee.{Float, binary64, to_bits}
 use lib.ListN.{length, drop, length-drop}
-use Rattle.state.specs.Rejections.{unless, short_buffer, by_outcome, by_answer}
+use Rattle.state.specs.Rejections.{unless, rejection_of, short_buffer, by_outcome, by_answer, Outcome, Answer}
 use Rattle.state.specs.States.{check}
 use Rattle.state.specs.Switching.{switch_to_even}
 use Rattle.state.specs.declared.State.{State}
-use Rattle.state.specs.declared.Outcome.{Outcome}
-use Rattle.state.specs.declared.Outcome.TheVariants as OutcomeOf
-use Rattle.state.specs.declared.Answer.{Answer}
-use Rattle.state.specs.declared.Answer.TheVariants as AnswerOf
 use Rattle.state.proofs.Tests.{then-zero, unless-zero}
 use Rattle.state.proofs.Passing.{bounded}
 use Rattle.ets.specs.Steps.{step, missing}
 use Rattle.forecasts.specs.Forecasts.{max_horizon, forecast}
 use Rattle.weights.specs.Weights.{variance}
 use Rattle.weights.specs.declared.Variance.{Variance}
-use Rattle.weights.specs.declared.Variance.TheVariants as VarianceOf
 use Rattle.relative_errors.specs.Relative.{relative_variance}
-use Rattle.relative_errors.specs.declared.RelativeVariance.{RelativeVariance}
-use Rattle.relative_errors.specs.declared.RelativeVariance.TheVariants as RelativeOf
 use Rattle.layout.specs.Layout.{size_of}
 use Rattle.snapshot.specs.Snapshots.{open_code, read}
 use Rattle.snapshot.proofs.OffsetLaws.{offsets}
@@ -40,13 +33,14 @@ use Rattle.actions.specs.declared.Action.{Action}
 use Rattle.actions.specs.declared.Opening.{Opening}
 use Rattle.actions.specs.Actions.{by_variance, by_relative, opening}
 use Rattle.actions.specs.Actions as ActionOf
-use Rattle.actions.proofs.ActionLaws as ActionLaws
 use Rattle.decoding.specs.declared.Command.{Command}
 use Rattle.decoding.specs.declared.Command.TheVariants as CommandOf
 use Rattle.decoding.specs.declared.Decoded.{Decoded}
-use Rattle.commands.specs.Commands.{accepted, rejected, settled, onward, rest_offset, open_snapshot, take_reading, take_missing, switch_state, give_forecast, give_variance, give_relative_variance, save_state, store_state, restore_state, act, buffered, checkpointed, next_command, perform, perform_bytes, perform_checkpoints}
+use Rattle.commands.specs.Commands.{accepted, rejected, settled, rest_offset, open_snapshot, take_reading, take_missing, switch_state, give_forecast, give_variance, give_relative_variance, save_state, store_state, restore_state, act, buffered, checkpointed, next_command, perform, perform_bytes, perform_checkpoints}
 use Rattle.commands.specs.declared.Session.{Session}
 use Rattle.commands.specs.declared.Performed.{Performed}
+use Rattle.std.specs.Prelude.{Result, Ok, Err}
+use Rattle.state.specs.declared.Rejection.{Rejection}
 
 pub snapshot-most : (s : State) → check s ≡ 0 → length (encoded s) ≤ size_of 48
 snapshot-most s e = omega (arith, length-encoded s, (bounded s e).period)
@@ -59,30 +53,30 @@ save-facts s room z =
     let q = then-zero (check s) (unless fits short_buffer) z in
     (q.0, rw (length-encoded s) (leb-true (size_of s.period) room (unless-zero fits 11 q.1)))
 
-pub opened-rejected : (s : List ℕ) (x : Session) (code : ℕ) → code ≡ open_code (drop x.at s) → (code ≡ 0 → ⊥)
-    → open_snapshot s x ≡ rejected code (rest_offset s x.at) x
+pub opened-rejected : (s : List ℕ) (x : Session) → (open_code (drop x.at s) ≡ 0 → ⊥)
+    → open_snapshot s x ≡ rejected (rejection_of (open_code (drop x.at s))) (rest_offset s x.at) x
 unfolding open_snapshot
-opened-rejected s x code q h = ActionLaws.opened-rejected (drop x.at s) (onward (rest_offset s x.at)) (λ (c : ℕ). rejected c (rest_offset s x.at) x) code q h
+opened-rejected s x h = rw (ne_eqb (open_code (drop x.at s)) 0 h)
 
 -- ---- an action is settled to what its command answers
 module _ (x : Session) (next offset : ℕ) (t : State) where
-  by-outcome : (o : Outcome) (r : Reply) → settled x.at x.active next offset (by_outcome o (ActionOf.accepted r t) (ActionOf.rejected x.state)) ≡ by_outcome o (accepted r next t) (λ (c : ℕ). rejected c offset x)
-  by-outcome OutcomeOf.Accepted r = refl
-  by-outcome (OutcomeOf.Rejected c) r = refl
+  by-outcome : (o : Outcome) (r : Reply) → settled x.at x.active next offset (by_outcome o (ActionOf.accepted r t) (ActionOf.rejected x.state)) ≡ by_outcome o (accepted r next t) (λ (r : Rejection). rejected r offset x)
+  by-outcome (Ok u) r = refl
+  by-outcome (Err c) r = refl
 
-  by_answer-is : (o : Answer) (r : ℤ → Reply) → settled x.at x.active next offset (by_answer o (λ v. ActionOf.accepted (r v) t) (ActionOf.rejected x.state)) ≡ by_answer o (λ v. accepted (r v) next t) (λ (c : ℕ). rejected c offset x)
-  by_answer-is (AnswerOf.Accepted v) r = refl
-  by_answer-is (AnswerOf.Rejected c) r = refl
+  by_answer-is : (o : Answer) (r : ℤ → Reply) → settled x.at x.active next offset (by_answer o (λ v. ActionOf.accepted (r v) t) (ActionOf.rejected x.state)) ≡ by_answer o (λ v. accepted (r v) next t) (λ (r : Rejection). rejected r offset x)
+  by_answer-is (Ok v) r = refl
+  by_answer-is (Err c) r = refl
 
-  by-variance : (o : Variance) (r : ℕ → ℕ → Reply) → settled x.at x.active next offset (by_variance o (λ a b. ActionOf.accepted (r a b) t) (ActionOf.rejected x.state)) ≡ by_variance o (λ a b. accepted (r a b) next t) (λ (c : ℕ). rejected c offset x)
-  by-variance (VarianceOf.Accepted a b) r = refl
-  by-variance (VarianceOf.Rejected c) r = refl
+  by-variance : (o : Result Variance Rejection) (r : ℕ → ℕ → Reply) → settled x.at x.active next offset (by_variance o (λ a b. ActionOf.accepted (r a b) t) (ActionOf.rejected x.state)) ≡ by_variance o (λ a b. accepted (r a b) next t) (λ (r : Rejection). rejected r offset x)
+  by-variance (Ok v) r = refl
+  by-variance (Err c) r = refl
 
-  by-relative : (o : RelativeVariance) (r : Float → Reply) → settled x.at x.active next offset (by_relative o (λ v. ActionOf.accepted (r v) t) (ActionOf.rejected x.state)) ≡ by_relative o (λ v. accepted (r v) next t) (λ (c : ℕ). rejected c offset x)
-  by-relative (RelativeOf.Accepted v) r = refl
-  by-relative (RelativeOf.Rejected c) r = refl
+  by-relative : (o : Result Float Rejection) (r : Float → Reply) → settled x.at x.active next offset (by_relative o (λ v. ActionOf.accepted (r v) t) (ActionOf.rejected x.state)) ≡ by_relative o (λ v. accepted (r v) next t) (λ (r : Rejection). rejected r offset x)
+  by-relative (Ok v) r = refl
+  by-relative (Err c) r = refl
 
-  by-test : (b : Bool) (r : Reply) (c : ℕ) → settled x.at x.active next offset (cond b (ActionOf.accepted r t) (ActionOf.rejected x.state c)) ≡ cond b (accepted r next t) (rejected c offset x)
+  by-test : (b : Bool) (r : Reply) (c : Rejection) → settled x.at x.active next offset (cond b (ActionOf.accepted r t) (ActionOf.rejected x.state c)) ≡ cond b (accepted r next t) (rejected c offset x)
   by-test true r c = refl
   by-test false r c = refl
 
@@ -105,7 +99,7 @@ module _ (x : Session) (cs : List ℕ) (room : ℕ) (a : Action) where
   Made (CommandOf.Forecast h) = a ≡ ActionOf.give_forecast x.state h ActionOf.accepted (ActionOf.rejected x.state)
   Made (CommandOf.Variance h sigma2) = a ≡ ActionOf.give_variance x.state h sigma2 ActionOf.accepted (ActionOf.rejected x.state)
   Made CommandOf.Save = a ≡ ActionOf.save_state x.state room ActionOf.accepted (ActionOf.rejected x.state)
-  Made (CommandOf.Rejected code) = a ≡ ActionOf.rejected x.state code
+  Made (CommandOf.Rejected r) = a ≡ ActionOf.rejected x.state r
   Made CommandOf.SwitchToEven = a ≡ ActionOf.switch_state x.state ActionOf.accepted (ActionOf.rejected x.state)
   Made (CommandOf.RelativeVariance h sigma2) = a ≡ ActionOf.give_relative_variance x.state h sigma2 ActionOf.accepted (ActionOf.rejected x.state)
   Made (CommandOf.Store slot) = a ≡ ActionOf.store_state x.state slot (length cs) ActionOf.accepted (ActionOf.rejected x.state)
@@ -120,7 +114,7 @@ module _ (x : Session) (cs : List ℕ) (room : ℕ) (a : Action) where
   settles s next (CommandOf.Forecast h) e = rw e (by_answer-is x next x.at x.state (forecast x.state h) (λ v. ReplyOf.Forecast h v))
   settles s next (CommandOf.Variance h sigma2) e = rw e (by-variance x next x.at x.state (variance x.state h sigma2) (λ m n. ReplyOf.Variance h m n))
   settles s next CommandOf.Save e = rw e (by-outcome x next x.at x.state (save x.state room) (ReplyOf.Saved (length (encoded x.state))))
-  settles s next (CommandOf.Rejected code) e = rw e
+  settles s next (CommandOf.Rejected r) e = rw e
   settles s next CommandOf.SwitchToEven e = rw e (by-outcome x next x.at (switch_to_even x.state).state (switch_to_even x.state).outcome ReplyOf.Silent)
   settles s next (CommandOf.RelativeVariance h sigma2) e = rw e (by-relative x next x.at x.state (relative_variance x.state h sigma2 max_horizon) (λ v. ReplyOf.RelativeVariance h (to_bits binary64 v)))
   settles s next (CommandOf.Store slot) e = rw e (by-outcome x next x.at x.state (store x.state slot (length cs)) ReplyOf.Silent)

@@ -1,6 +1,6 @@
 -- Document 01, "Commands": what a command of a stream answers, and what stands after it.
 use Rattle.std.specs.Prelude.{ℕ, ◌+◌, Bool, true, false, cond, List, ℤ, length, drop}
-use Rattle.state.specs.Rejections.{by_outcome}
+use Rattle.state.specs.Rejections.{by_result}
 use Rattle.state.specs.States.{no_state}
 use Rattle.state.specs.declared.State.{State}
 use Rattle.snapshot.specs.Snapshots.{open_offset}
@@ -16,6 +16,7 @@ use Rattle.replies.specs.declared.Reply.{Reply}
 use Rattle.replies.specs.declared.Reply.TheVariants as ReplyOf
 use Rattle.commands.specs.declared.Session.{Session}
 use Rattle.commands.specs.declared.Performed.{Performed}
+use Rattle.state.specs.declared.Rejection.{Rejection}
 
 -- before the first command: no state is open
 unfoldable pub start : Session
@@ -25,8 +26,8 @@ start = record { at = 0; active = false; state = no_state }
 abbrev pub stopped : Reply → Session → Performed
 stopped r x = record { reply = r; session = x }
 
-abbrev pub rejected : ℕ → ℕ → Session → Performed
-rejected code offset x = stopped (ReplyOf.Rejected code offset) x
+abbrev pub rejected : Rejection → ℕ → Session → Performed
+rejected r offset x = stopped (ReplyOf.Rejected r offset) x
 
 -- an accepted command: its answer, the offset after it, and the state that then stands
 abbrev pub accepted : Reply → ℕ → State → Performed
@@ -35,14 +36,14 @@ accepted r next s = record { reply = r; session = record { at = next; active = t
 -- what stands after an action on a session's state: the session's offset and whether a state was open, the offset after the command, and that of what is rejected
 abbrev pub settled : ℕ → Bool → ℕ → ℕ → Action → Performed
 settled at active next offset a =
-    by_outcome a.outcome (accepted a.reply next a.state) (λ (code : ℕ). rejected code offset (record { at = at; active = active; state = a.state }))
+    by_result a.answer (λ (r : Reply). accepted r next a.state) (λ (r : Rejection). rejected r offset (record { at = at; active = active; state = a.state }))
 
 -- what a stream hands on of an accepted command, with the offset after it, and of a rejected one
 abbrev pub onward : ℕ → Reply → State → Performed
 onward next r t = accepted r next t
 
-abbrev pub refused : Session → ℕ → Performed
-refused x code = rejected code x.at x
+abbrev pub refused : Session → Rejection → Performed
+refused x r = rejected r x.at x
 
 -- after the last command: the count, 0 if no state is open
 unfoldable pub finish : Session → Performed
@@ -55,7 +56,7 @@ rest_offset s at = at + open_offset (drop at s)
 -- 10 or 18: a new group replaces the state only when all of it is accepted
 unfoldable pub open_snapshot : List ℕ → Session → Performed
 open_snapshot s x =
-    ActionOf.open_snapshot (drop x.at s) (onward (rest_offset s x.at)) (λ (code : ℕ). rejected code (rest_offset s x.at) x)
+    ActionOf.open_snapshot (drop x.at s) (onward (rest_offset s x.at)) (λ (r : Rejection). rejected r (rest_offset s x.at) x)
 
 -- 20
 unfoldable pub take_reading : Session → ℕ → ℤ → Performed
@@ -102,7 +103,7 @@ act s x checkpoints room next CommandOf.Missing = take_missing x next
 act s x checkpoints room next (CommandOf.Forecast h) = give_forecast x next h
 act s x checkpoints room next (CommandOf.Variance h sigma2) = give_variance x next h sigma2
 act s x checkpoints room next CommandOf.Save = save_state x next room
-act s x checkpoints room next (CommandOf.Rejected code) = rejected code x.at x
+act s x checkpoints room next (CommandOf.Rejected r) = rejected r x.at x
 act s x checkpoints room next CommandOf.SwitchToEven = switch_state x next
 act s x checkpoints room next (CommandOf.RelativeVariance h sigma2) = give_relative_variance x next h sigma2
 act s x checkpoints room next (CommandOf.Store slot) = store_state x next slot (length checkpoints)
@@ -117,7 +118,7 @@ buffered x buffer CommandOf.Missing = buffer
 buffered x buffer (CommandOf.Forecast h) = buffer
 buffered x buffer (CommandOf.Variance h sigma2) = buffer
 buffered x buffer CommandOf.Save = saved_bytes x.state buffer
-buffered x buffer (CommandOf.Rejected code) = buffer
+buffered x buffer (CommandOf.Rejected r) = buffer
 buffered x buffer CommandOf.SwitchToEven = buffer
 buffered x buffer (CommandOf.RelativeVariance h sigma2) = buffer
 buffered x buffer (CommandOf.Store slot) = buffer
@@ -132,7 +133,7 @@ checkpointed x checkpoints CommandOf.Missing = checkpoints
 checkpointed x checkpoints (CommandOf.Forecast h) = checkpoints
 checkpointed x checkpoints (CommandOf.Variance h sigma2) = checkpoints
 checkpointed x checkpoints CommandOf.Save = checkpoints
-checkpointed x checkpoints (CommandOf.Rejected code) = checkpoints
+checkpointed x checkpoints (CommandOf.Rejected r) = checkpoints
 checkpointed x checkpoints CommandOf.SwitchToEven = checkpoints
 checkpointed x checkpoints (CommandOf.RelativeVariance h sigma2) = checkpoints
 checkpointed x checkpoints (CommandOf.Store slot) = stored_bytes x.state slot checkpoints

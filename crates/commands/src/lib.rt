@@ -66,7 +66,7 @@ pub fn perform(
         Command::Forecast(horizon) => give_forecast(state, horizon),
         Command::Variance { horizon, sigma2 } => give_variance(state, horizon, sigma2),
         Command::Save => save_state(state, buffer),
-        Command::Rejected(code) => reject(state, code),
+        Command::Rejected(rejection) => reject(state, rejection),
         Command::SwitchToEven => switch_state(state),
         Command::RelativeVariance { horizon, sigma2 } => {
             give_relative_variance(state, horizon, sigma2)

@@ -6,17 +6,14 @@ use super::{Performed, Session};
 use actions::Action;
 use actions::copies::open_snapshot;
 use replies::Reply;
-use state::Outcome;
 
 // With the offset of the session and whether a state was open, the offset after the command, and that of what is rejected.
 pub fn settle(at: usize, active: bool, next: usize, offset: usize, action: Action) -> Performed
     ensures { result ≡ settled at active next offset action }
 {
-    let outcome = action.outcome;
-    let reply = action.reply;
     let state = action.state;
-    match outcome {
-        Outcome::Accepted => Performed {
+    match action.answer {
+        Ok(reply) => Performed {
             reply,
             session: Session {
                 at: next,
@@ -24,8 +21,8 @@ pub fn settle(at: usize, active: bool, next: usize, offset: usize, action: Actio
                 state,
             },
         },
-        Outcome::Rejected(code) => Performed {
-            reply: Reply::Rejected { code, offset },
+        Err(rejection) => Performed {
+            reply: Reply::Rejected { rejection, offset },
             session: Session { at, active, state },
         },
     }

@@ -9,6 +9,7 @@ use lib.IntN.{ℤ, pos}
 use lib.Signed.{◌<ℤ◌}
 use Rattle.state.specs.Fixed.{R, share}
 use Rattle.integers.specs.Below.{all_below}
+use Rattle.state.specs.Rejections.{rejection_of}
 use Rattle.state.specs.Scores.{no_score, sum_of, sum_ok}
 use Rattle.state.specs.States.{state_of, check, parameters_code}
 use Rattle.state.specs.Switching.{switched, switch_to_even}
@@ -41,7 +42,7 @@ four-contracts : Contracting (parameters_of four)
 four-contracts = contracts _ refl (lit< tt) refl (leb→le _ _ tt) (record { lt = tt })
 
 refused : Refused
-unfolding AllWithin AtMost WithinOneStep operate beside_after expected_by result check parameters_code all_below sum_of sum_ok R share damped_trend season_by residual new_level new_trend new_season seasonal_by square_of score_after next_index step_code_by step trend_at trend_line season_at forecast_of forecast_code_to forecast_to forecast_list forecasts_code_to forecasts_to forecast_cells_to from_bytes to_bytes command_size is_command due_code model_code level_code score_code season_code scan_seasons position_code scan cells_at decoded model_bytes level_bytes score_bytes season_bytes seasons_bytes position_bytes encoded in_place_code in_place_forecast_code in_place_forecast in_place_switch_bytes switch_to_even exact_damped exact_residual_by adjusted exact_season_by exact_trend_at exact_line exact_forecast up_to exact_after expected
+unfolding rejection_of AllWithin AtMost WithinOneStep operate beside_after expected_by result check parameters_code all_below sum_of sum_ok R share damped_trend season_by residual new_level new_trend new_season seasonal_by square_of score_after next_index step_code_by step trend_at trend_line season_at forecast_of forecast_code_to forecast_to forecast_list forecasts_code_to forecasts_to forecast_cells_to from_bytes to_bytes command_size is_command due_code model_code level_code score_code season_code scan_seasons position_code scan cells_at decoded model_bytes level_bytes score_bytes season_bytes seasons_bytes position_bytes encoded in_place_code in_place_forecast_code in_place_forecast in_place_switch_bytes switch_to_even exact_damped exact_residual_by adjusted exact_season_by exact_trend_at exact_line exact_forecast up_to exact_after expected
 refused =
     record {
       forecast = λ h. le→leb _ _ (first (h.0 four-contracts) refl refl);
@@ -56,7 +57,7 @@ refused =
     }
 
 attained : Attained
-unfolding apart rising after beside result check parameters_code all_below sum_of sum_ok R share damped_trend season_by residual new_level new_trend new_season seasonal_by square_of score_after next_index step_code_by step switch_to_even trend_at trend_line season_at forecast_of exact_damped exact_residual_by adjusted exact_season_by exact_trend_at exact_line exact_forecast exact_after
+unfolding rejection_of apart rising after beside result check parameters_code all_below sum_of sum_ok R share damped_trend season_by residual new_level new_trend new_season seasonal_by square_of score_after next_index step_code_by step switch_to_even trend_at trend_line season_at forecast_of exact_damped exact_residual_by adjusted exact_season_by exact_trend_at exact_line exact_forecast exact_after
 attained = record { near = leb→le _ _ tt; near_even = leb→le _ _ tt; near_across = leb→le _ _ tt; beyond_half = leb→le _ _ tt }
 
 -- what the types of a state of the pins hold; the rest is computed
@@ -64,7 +65,7 @@ opens : (outside : Bool) (model A B F : ℕ) (l b : ℤ) (count : ℕ) → check
 opens outside model A B F l b count passes kind = (record { typed = record { cells = refl; low = lit< tt }; passes = passes }, kind)
 
 needed : Needed
-unfolding AtMost WithinOneStep rising readings after beside result check parameters_code all_below sum_of sum_ok R share damped_trend season_by residual new_level new_trend new_season seasonal_by square_of score_after next_index step_code_by step advanced missing_code missing trend_at trend_line season_at forecast_of exact_damped exact_residual_by adjusted exact_season_by exact_trend_at exact_line exact_forecast exact_after
+unfolding rejection_of AtMost WithinOneStep rising readings after beside result check parameters_code all_below sum_of sum_ok R share damped_trend season_by residual new_level new_trend new_season seasonal_by square_of score_after next_index step_code_by step advanced missing_code missing trend_at trend_line season_at forecast_of exact_damped exact_residual_by adjusted exact_season_by exact_trend_at exact_line exact_forecast exact_after
 needed =
     record {
       missing = (opens _ _ _ _ _ _ _ _ refl (contracts _ refl (lit< tt) refl (leb→le _ _ tt) (record { lt = tt })), λ h. le→leb _ _ h);
@@ -88,7 +89,7 @@ unfolding check parameters_code all_below sum_of sum_ok
 opens_relative = opens _ _ _ _ _ _ _ _ refl (contracts _ refl (lit< tt) refl (leb→le _ _ tt) (record { lt = tt }))
 
 shown : Shown
-unfolding compared calls after result switch_to_even in_place_switch_bytes check parameters_code all_below sum_of sum_ok R share damped_trend season_by residual new_level new_trend new_season seasonal_by square_of score_after next_index step_code_by advanced missing_code step missing take_code_by after_take_by run_by batch_run batch batch_levels trend_at trend_line season_at forecast_of forecast_code_to forecast_to forecast_list forecasts_code_to forecasts_to forecast_cells_to from_bytes to_bytes command_size is_command due_code model_code level_code score_code season_code scan_seasons position_code scan cells_at decoded model_bytes level_bytes score_bytes season_bytes seasons_bytes position_bytes encoded in_place_code in_place_step_code in_place_step_bytes in_place_missing_code in_place_missing_bytes in_place_forecast_code in_place_forecast exact_damped exact_residual_by adjusted exact_season_by exact_take_by exact_batch_by exact_trend_at exact_line exact_forecast exact_after expected_levels_by up_to expected
+unfolding rejection_of compared calls after result switch_to_even in_place_switch_bytes check parameters_code all_below sum_of sum_ok R share damped_trend season_by residual new_level new_trend new_season seasonal_by square_of score_after next_index step_code_by advanced missing_code step missing take_code_by after_take_by run_by batch_run batch batch_levels trend_at trend_line season_at forecast_of forecast_code_to forecast_to forecast_list forecasts_code_to forecasts_to forecast_cells_to from_bytes to_bytes command_size is_command due_code model_code level_code score_code season_code scan_seasons position_code scan cells_at decoded model_bytes level_bytes score_bytes season_bytes seasons_bytes position_bytes encoded in_place_code in_place_step_code in_place_step_bytes in_place_missing_code in_place_missing_bytes in_place_forecast_code in_place_forecast exact_damped exact_residual_by adjusted exact_season_by exact_take_by exact_batch_by exact_trend_at exact_line exact_forecast exact_after expected_levels_by up_to expected
 shown = record { opens = opens-late; opens_even = opens_even; opens_relative = opens_relative; holds = one-step-forecasts opening opens-late.0 (map on_state calls); rule_after = refl; compares = refl }
 
 pub pins : Pins

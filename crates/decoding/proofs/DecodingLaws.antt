@@ -1,50 +1,41 @@
 -- Laws of the command at an offset: the order of its refusals.
 use Prim.Native.Nat.{ℕ, zero, suc, ◌+◌, ◌-◌, ◌≤◌, ◌<◌}
-use mathlib.Core.Path.{◌≡◌, refl}
+use mathlib.Core.Path.{◌≡◌, refl, sym, ap, ◌∙◌}
 use mathlib.Core.Bool.{Bool, true, false, cond, not, ◌&&◌, ◌||◌, false≢true}
 use mathlib.Core.List.{List}
 use native.Mathlib.Omega.{arith}
-use borrow.Author.Tests.{le-leb, lt-leb, leb-true, leb-false}
+use borrow.Author.Tests.{le-leb, lt-leb, leb-true, leb-false, ne_eqb}
 use lib.Dec.{eqb, leb}
 use lib.ListN.{length, get_or}
-use Rattle.state.specs.Rejections.{unless, ◌then◌, unknown_command, out_of_place, truncated}
+use Rattle.std.proofs.Common.{Result, Err}
+use Rattle.std.specs.Prelude.{IsErrAnd}
+use Rattle.std.proofs.lemmas.Result.{err_from_is_err_and}
+use Rattle.state.specs.Rejections.{unless, ◌then◌, gives, out_of_place, truncated, rejection_of}
+use Rattle.state.specs.declared.Rejection.{Rejection}
 use Rattle.integers.proofs.Tests.{both}
-use Rattle.state.proofs.Tests.{unless-then, unless-zero}
-use Rattle.layout.specs.Answers.{length_answer}
-use Rattle.layout.specs.CommandTable.{command_size, is_command, only_in_snapshot, opens, command_length}
-use Rattle.layout.specs.declared.Length.TheVariants as LengthOf
+use Rattle.state.proofs.Answers.{given-rejected, rejected}
+use Rattle.state.proofs.Tests.{unless-then, unless-zero, then-first}
+use Rattle.layout.specs.CommandTable.{command_size, is_command, only_in_snapshot, opens}
 use Rattle.decoding.specs.Decoding.{errors_fit, allowed_here, command_code, operands, decoded, decode}
 use Rattle.decoding.specs.declared.Command.TheVariants as CommandOf
 
--- ---- the length of a command, as the table told it
-module _ (b n : ℕ) where
-  pub table-bytes : command_length b ≡ LengthOf.Bytes n → (is_command b ≡ true) × (n ≡ command_size b)
-  unfolding command_length
-  table-bytes e = go (is_command b) e
-    where
-      go : (t : Bool) → length_answer (unless t unknown_command) (command_size b) ≡ LengthOf.Bytes n → (t ≡ true) × (n ≡ command_size b)
-      go true e = (refl, cc)
-      go false e =
-          let z : ◌≡◌ {A = ℕ} 0 1 = cc in
-          absurd (omega arith)
+-- ---- a call that rejects ends the checks, and one that does not tells its value
+module _ {A B : Type 0} (n : ℕ) (w : B) where
+  pub call-rejects : (v : A) {r : Result A Rejection} {e : Rejection} → Err e ≡ gives n w → IsErrAnd r (λ y. y ≡ e) → r ≡ gives n v
+  call-rejects v {r} {e} q h =
+      let p = err_from_is_err_and r h in
+      let g = given-rejected n w e (sym q) in
+      p.1 ∙ ap Err (p.2 ∙ sym g.0) ∙ sym (rejected v g.1)
 
-  pub table-rejected : command_length b ≡ LengthOf.Rejected n → (is_command b ≡ false) × (n ≡ unknown_command)
-  unfolding command_length
-  table-rejected e = go (is_command b) e
-    where
-      go : (t : Bool) → length_answer (unless t unknown_command) (command_size b) ≡ LengthOf.Rejected n → (t ≡ false) × (n ≡ unknown_command)
-      go true e =
-          let z : ◌≡◌ {A = ℕ} 0 1 = cc in
-          absurd (omega arith)
-      go false e = (refl, cc)
+  pub call-ends : (k : ℕ) (v : A) {r : Result A Rejection} {e : Rejection} → Err e ≡ gives n w → IsErrAnd r (λ y. y ≡ e) → r ≡ gives (n then k) v
+  call-ends k v {r} {e} q h =
+      let g = given-rejected n w e (sym q) in
+      rw (then-first n k g.1) (call-rejects v q h)
 
 -- ---- a command is decoded: the end, then 2, 3, 4, then its operands
 module _ (s : List ℕ) (at : ℕ) (active : Bool) (model : ℕ) where
   abbrev b : ℕ
   b = get_or s at 0
-
-  abbrev Due : Bool → Type 0
-  Due t = allowed_here b active model ≡ t
 
   pub decode-end : length s ≤ at → decode s at active model ≡ decoded CommandOf.End at
   unfolding decode
@@ -55,7 +46,7 @@ module _ (s : List ℕ) (at : ℕ) (active : Bool) (model : ℕ) where
   inside e = go (leb (length s) at) refl e
     where
       go : (t : Bool) → leb (length s) at ≡ t
-          → (cond t (decoded CommandOf.End at) (cond (eqb (command_code s at active model) 0) (decoded (operands s at) (at + command_size b)) (decoded (CommandOf.Rejected (command_code s at active model)) at))).command ≡ CommandOf.Open
+          → (cond t (decoded CommandOf.End at) (cond (eqb (command_code s at active model) 0) (decoded (operands s at) (at + command_size b)) (decoded (CommandOf.Rejected (rejection_of (command_code s at active model))) at))).command ≡ CommandOf.Open
           → at ≤ length s
       go true q e =
           let z : ◌≡◌ {A = ℕ} 0 1 = cc in
@@ -63,21 +54,17 @@ module _ (s : List ℕ) (at : ℕ) (active : Bool) (model : ℕ) where
       go false q e = omega (arith, leb-false (length s) at q)
 
   module _ (h : at < length s) where
-    pub decode-unknown : is_command b ≡ false → decode s at active model ≡ decoded (CommandOf.Rejected 2) at
-    unfolding decode command_code
-    decode-unknown u = rw (lt-leb (length s) at h, u)
+    pub decode-whole : command_code s at active model ≡ 0 → decode s at active model ≡ decoded (operands s at) (at + command_size b)
+    unfolding decode
+    decode-whole e = rw (lt-leb (length s) at h, e)
 
-    pub decode-stray : is_command b ≡ true → Due false → decode s at active model ≡ decoded (CommandOf.Rejected 3) at
+    pub decode-rejected : (command_code s at active model ≡ 0 → ⊥) → decode s at active model ≡ decoded (CommandOf.Rejected (rejection_of (command_code s at active model))) at
+    unfolding decode
+    decode-rejected n = rw (lt-leb (length s) at h, ne_eqb _ 0 n)
+
+    pub decode-stray : is_command b ≡ true → allowed_here b active model ≡ false → decode s at active model ≡ decoded (CommandOf.Rejected (rejection_of out_of_place)) at
     unfolding decode command_code
     decode-stray u v = rw (lt-leb (length s) at h, u, v)
-
-    pub decode-short : is_command b ≡ true → Due true → length s - at < command_size b → decode s at active model ≡ decoded (CommandOf.Rejected 4) at
-    unfolding decode command_code
-    decode-short u v w = rw (lt-leb (length s) at h, u, v, lt-leb (command_size b) (length s - at) w)
-
-    pub decode-whole : is_command b ≡ true → Due true → command_size b ≤ length s - at → decode s at active model ≡ decoded (operands s at) (at + command_size b)
-    unfolding decode command_code
-    decode-whole u v w = rw (lt-leb (length s) at h, u, v, le-leb (command_size b) (length s - at) w)
 
 -- ---- a command that nothing rejects has its bytes, and an open state unless it opens one
 size-least : (n : ℕ) → not (eqb n 0) ≡ true → 0 < n

@@ -2,7 +2,7 @@
 use Rattle.std.specs.Prelude.{ℕ, ◌+◌, ◌-◌, Bool, cond, not, ◌&&◌, ◌||◌, List, eqb, leb, length, get_or}
 use Rattle.std.specs.Int.{w32}
 use Rattle.std.proofs.Common.{to_z}
-use Rattle.state.specs.Rejections.{unless, ◌then◌, unknown_command, out_of_place, truncated}
+use Rattle.state.specs.Rejections.{unless, ◌then◌, unknown_command, out_of_place, truncated, rejection_of}
 use Rattle.models.specs.Models.{errors_are}
 use Rattle.layout.specs.Bytes.{unsigned_at}
 use Rattle.layout.specs.CommandTable.{command_size, is_command, only_in_snapshot, opens}
@@ -50,4 +50,4 @@ decode s at active model =
     cond (leb (length s) at) (decoded CommandOf.End at)
     (cond (eqb (command_code s at active model) 0)
     (decoded (operands s at) (at + command_size (get_or s at 0)))
-    (decoded (CommandOf.Rejected (command_code s at active model)) at))
+    (decoded (CommandOf.Rejected (rejection_of (command_code s at active model))) at))

@@ -3,13 +3,15 @@
 
 mod reading;
 
-ghost use Rattle.std.specs.Prelude.{◌≡◌};
-ghost use Rattle.decoding.specs.Decoding.{allowed_here, decode};
+ghost use Rattle.std.specs.Prelude.{◌≡◌, ◌<◌, length, get_or};
+ghost use Rattle.state.specs.Rejections.{gives};
+ghost use Rattle.layout.specs.CommandTable.{command_size};
+ghost use Rattle.decoding.specs.Decoding.{allowed_here, command_code, decode};
 
-use layout::{Length, command_length, only_in_snapshot, opens};
+use layout::{Opcode, command_length, only_in_snapshot, opens};
 use models::errors_are;
 use reading::command_at;
-use state::{OUT_OF_PLACE, TRUNCATED};
+use state::{Rejection, unless};
 
 #[derive(Clone, Copy)]
 pub enum Command {
@@ -22,7 +24,7 @@ pub enum Command {
     Variance { horizon: u32, sigma2: u32 },
     Save,
     // By 2, 3 or 4.
-    Rejected(u8),
+    Rejected(Rejection),
     SwitchToEven,
     // By the 64 bits of its σ².
     RelativeVariance { horizon: u32, sigma2: u64 },
@@ -42,9 +44,22 @@ pub struct Decoded {
 fn allowed_here(b: u8, active: bool, model: u8) -> bool
     ensures { result ≡ allowed_here b active model }
 {
-    let variance = (b == 0x31) | (b == 0x32);
-    let fits = !variance | errors_are(b == 0x32, model);
+    let relative = b == Opcode::RelativeVariance as u8;
+    let variance = (b == Opcode::Variance as u8) | relative;
+    let fits = !variance | errors_are(relative, model);
     !only_in_snapshot(b) & (active | opens(b)) & fits
+}
+
+// What rejects the command at an offset that the stream has, or its length.
+fn check_command(s: &[u8], at: usize, active: bool, model: u8) -> Result<usize, Rejection>
+    requires { at < length s.now }
+    ensures { result ≡ gives (command_code s.now at active model) (command_size (get_or s.now at 0)) }
+{
+    let b = s[at];
+    let size = command_length(b)?;
+    unless(allowed_here(b, active, model), Rejection::OutOfPlace)?;
+    unless(size <= s.len() - at, Rejection::Truncated)?;
+    Ok(size)
 }
 
 // The command at an offset, where a state is open or not, with its model byte.
@@ -57,29 +72,13 @@ pub fn decode(s: &[u8], at: usize, active: bool, model: u8) -> Decoded
             next: at,
         };
     }
-    let b = s[at];
-    let size = command_length(b);
-    match size {
-        Length::Bytes(n) => {
-            if !allowed_here(b, active, model) {
-                return Decoded {
-                    command: Command::Rejected(OUT_OF_PLACE),
-                    next: at,
-                };
-            }
-            if s.len() - at < n {
-                return Decoded {
-                    command: Command::Rejected(TRUNCATED),
-                    next: at,
-                };
-            }
-            Decoded {
-                command: command_at(s, at),
-                next: at + n,
-            }
-        }
-        Length::Rejected(code) => Decoded {
-            command: Command::Rejected(code),
+    match check_command(s, at, active, model) {
+        Ok(size) => Decoded {
+            command: command_at(s, at),
+            next: at + size,
+        },
+        Err(rejection) => Decoded {
+            command: Command::Rejected(rejection),
             next: at,
         },
     }

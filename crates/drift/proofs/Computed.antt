@@ -9,6 +9,7 @@ use lib.ListN.{get_or-replicate}
 use borrow.Author.Tests.{eq-eqb}
 use Rattle.state.specs.Fixed.{R, share}
 use Rattle.integers.specs.Below.{all_below}
+use Rattle.state.specs.Rejections.{rejection_of}
 use Rattle.state.specs.Scores.{sum_of, sum_ok}
 use Rattle.state.specs.States.{check, parameters_code}
 use Rattle.state.specs.Switching.{switch_to_even}
@@ -94,7 +95,7 @@ unfolding AtMost R share damped_trend season_by residual new_level new_trend new
 stepped = record { level = leb→le _ _ tt; trend = leb→le _ _ tt; seasons = λ k l. absurd (omega arith) }
 
 shown : Shown
-unfolding compared calls after result switch_to_even in_place_switch_bytes check parameters_code all_below sum_of sum_ok R share damped_trend season_by residual new_level new_trend new_season seasonal_by square_of score_after next_index step_code_by advanced missing_code step missing take_code_by after_take_by run_by batch_run batch batch_levels trend_at trend_line season_at forecast_of forecast_code_to forecast_to forecast_list forecasts_code_to forecasts_to forecast_cells_to from_bytes to_bytes command_size is_command due_code model_code level_code score_code season_code scan_seasons position_code scan cells_at decoded model_bytes level_bytes score_bytes season_bytes seasons_bytes position_bytes encoded in_place_code in_place_step_code in_place_step_bytes in_place_missing_code in_place_missing_bytes in_place_forecast_code in_place_forecast exact_damped exact_residual_by adjusted exact_season_by exact_take_by exact_batch_by exact_trend_at exact_line exact_forecast exact_after expected_levels_by up_to expected
+unfolding rejection_of compared calls after result switch_to_even in_place_switch_bytes check parameters_code all_below sum_of sum_ok R share damped_trend season_by residual new_level new_trend new_season seasonal_by square_of score_after next_index step_code_by advanced missing_code step missing take_code_by after_take_by run_by batch_run batch batch_levels trend_at trend_line season_at forecast_of forecast_code_to forecast_to forecast_list forecasts_code_to forecasts_to forecast_cells_to from_bytes to_bytes command_size is_command due_code model_code level_code score_code season_code scan_seasons position_code scan cells_at decoded model_bytes level_bytes score_bytes season_bytes seasons_bytes position_bytes encoded in_place_code in_place_step_code in_place_step_bytes in_place_missing_code in_place_missing_bytes in_place_forecast_code in_place_forecast exact_damped exact_residual_by adjusted exact_season_by exact_take_by exact_batch_by exact_trend_at exact_line exact_forecast exact_after expected_levels_by up_to expected
 shown = record { step = stepped; opens = opens; opens_outside = opens_outside; opens_relative = opens_relative; holds = demand3 opening opens.0 (map on_state calls); rule_before = refl; rule_after = refl; short = refl; compares = refl }
 
 pub pins : Pins

@@ -1,15 +1,14 @@
 -- Computed: a missing reading of a damped and of a seasonal model, the place of the state's checks, and what the sentences of document 02, W-208, say of a reading, a missing
 -- reading and a batch, on a season whose value at each place is as many reading units as the place's number.
-use Rattle.std.specs.Prelude.{ℕ, false, List, [], ◌∷◌, ◌≡◌, ℤ, pos, ◌*ℤ◌, get_or}
+use Rattle.std.specs.Prelude.{ℕ, false, List, [], ◌∷◌, ◌≡◌, ℤ, pos, ◌*ℤ◌, get_or, Ok}
 use Rattle.calendars.specs.Calendars.{Calendar, calendar_of}
 use Rattle.state.specs.Scores.{no_score}
 use Rattle.state.specs.States.{state_of}
 use Rattle.state.specs.declared.State.{State}
-use Rattle.state.specs.declared.Answer.TheVariants as AnswerOf
-use Rattle.state.specs.declared.Outcome.TheVariants as OutcomeOf
 use Rattle.ets.specs.Steps.{step, missing}
 use Rattle.ets.specs.Batches.{batch, batch_levels}
 use Rattle.ets.specs.Calendars.{step_on, missing_on, batch_on}
+use Rattle.state.specs.Rejections.{rejects}
 
 -- so many reading units
 abbrev pub units : ℕ → ℤ
@@ -44,18 +43,18 @@ abbrev pub beyond : State
 beyond = state_of false 0 0 0 0 0 0 (pos 1099511627777) (pos 0) [] 0 0 no_score
 
 pub record OrderPins : Type 0 where
-  pub state_first : (step beyond (pos 1000001)).residual ≡ AnswerOf.Rejected 9
+  pub state_first : (step beyond (pos 1000001)).residual ≡ rejects 9
 
 -- ---- a step: by the place that it uses a reading of as many units has the residual 0
 pub record StepPins : Type 0 where
   -- place 2 is due at count 100: 3 is used, and p is left at 4
-  pub skipped : (step_on (skips (100 ∷ [])) (hourly 2 100) (pos 3)).residual ≡ AnswerOf.Accepted (pos 0)
+  pub skipped : (step_on (skips (100 ∷ [])) (hourly 2 100) (pos 3)).residual ≡ Ok (pos 0)
   pub skipped_to : (step_on (skips (100 ∷ [])) (hourly 2 100) (pos 3)).state.index ≡ 4
   -- a reading 2 units above what place 3 has moves its value by a half of them, and leaves place 2
   pub skipped_at : get_or (step_on (skips (100 ∷ [])) (hourly 2 100) (pos 5)).state.seasonal 3 (pos 0) ≡ units 4
   pub skipped_over : get_or (step_on (skips (100 ∷ [])) (hourly 2 100) (pos 5)).state.seasonal 2 (pos 0) ≡ units 2
   -- 2 is used, and p is left at 2
-  pub repeated : (step_on (repeats (100 ∷ [])) (hourly 2 100) (pos 2)).residual ≡ AnswerOf.Accepted (pos 0)
+  pub repeated : (step_on (repeats (100 ∷ [])) (hourly 2 100) (pos 2)).residual ≡ Ok (pos 0)
   pub repeated_to : (step_on (repeats (100 ∷ [])) (hourly 2 100) (pos 2)).state.index ≡ 2
   -- a listed count has no effect where place 2 isn't due, and it is the count before the step
   pub not_due : (step_on (skips (100 ∷ [])) (hourly 5 100) (pos 5)).state.index ≡ 6
@@ -66,16 +65,16 @@ pub record StepPins : Type 0 where
 
 -- ---- 20, and its place in the order
 pub record RejectionPins : Type 0 where
-  pub equal_counts : (step_on (skips (7 ∷ 7 ∷ [])) (hourly 0 0) (pos 1000001)).residual ≡ AnswerOf.Rejected 20
-  pub falling : (step_on (repeats (7 ∷ 6 ∷ [])) (hourly 0 0) (pos 0)).residual ≡ AnswerOf.Rejected 20
-  pub in_both : (step_on (calendar_of (7 ∷ []) (7 ∷ [])) (hourly 0 0) (pos 0)).residual ≡ AnswerOf.Rejected 20
-  pub then_13 : (step_on (skips (7 ∷ 8 ∷ [])) (hourly 0 0) (pos 1000001)).residual ≡ AnswerOf.Rejected 13
-  pub before_14 : (missing_on (skips (7 ∷ 7 ∷ [])) (hourly 0 281474976710656)).outcome ≡ OutcomeOf.Rejected 20
+  pub equal_counts : (step_on (skips (7 ∷ 7 ∷ [])) (hourly 0 0) (pos 1000001)).residual ≡ rejects 20
+  pub falling : (step_on (repeats (7 ∷ 6 ∷ [])) (hourly 0 0) (pos 0)).residual ≡ rejects 20
+  pub in_both : (step_on (calendar_of (7 ∷ []) (7 ∷ [])) (hourly 0 0) (pos 0)).residual ≡ rejects 20
+  pub then_13 : (step_on (skips (7 ∷ 8 ∷ [])) (hourly 0 0) (pos 1000001)).residual ≡ rejects 13
+  pub before_14 : (missing_on (skips (7 ∷ 7 ∷ [])) (hourly 0 281474976710656)).outcome ≡ rejects 20
   -- also of a batch of no readings, after 12
-  pub no_readings : (batch_on (skips (7 ∷ 7 ∷ [])) (hourly 0 0) [] 0).outcome ≡ OutcomeOf.Rejected 20
-  pub after_12 : (batch_on (skips (7 ∷ 7 ∷ [])) (hourly 0 0) (pos 0 ∷ []) 0).outcome ≡ OutcomeOf.Rejected 12
+  pub no_readings : (batch_on (skips (7 ∷ 7 ∷ [])) (hourly 0 0) [] 0).outcome ≡ rejects 20
+  pub after_12 : (batch_on (skips (7 ∷ 7 ∷ [])) (hourly 0 0) (pos 0 ∷ []) 0).outcome ≡ rejects 12
   -- m is not 24: no season
-  pub no_season : (step_on (skips []) (state_of false 0 0 32768 0 0 0 (pos 0) (pos 0) [] 0 0 no_score) (pos 0)).residual ≡ AnswerOf.Rejected 20
+  pub no_season : (step_on (skips []) (state_of false 0 0 32768 0 0 0 (pos 0) (pos 0) [] 0 0 no_score) (pos 0)).residual ≡ rejects 20
 
 -- ---- a batch: the level after each reading, and after a reading that halts it no cell more
 abbrev pub halving : State

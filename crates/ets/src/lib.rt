@@ -3,7 +3,7 @@
 
 pub mod promises;
 
-use state::{Answer, Outcome, State};
+use state::{Rejection, State};
 
 // What a step is made of: the rounding rule (whether ties go to the even number), the gains, the level, the damped trend (document 01's d) and the season value that is due.
 #[derive(Clone, Copy)]
@@ -17,10 +17,9 @@ pub struct Terms {
     pub season: i64,
 }
 
-// What a reading makes of them. code is the rejection or 0.
+// What a reading makes of them.
 #[derive(Clone, Copy)]
 pub struct Update {
-    pub code: u8,
     pub level: i64,
     pub trend: i64,
     pub season: i64,
@@ -31,14 +30,14 @@ pub struct Update {
 #[derive(Clone, Copy)]
 pub struct Stepped {
     pub state: State,
-    pub residual: Answer,
+    pub residual: Result<i64, Rejection>,
 }
 
 // The state that stands after a missing reading.
 #[derive(Clone, Copy)]
 pub struct Missed {
     pub state: State,
-    pub outcome: Outcome,
+    pub outcome: Result<(), Rejection>,
 }
 
 // The state that stands after a batch, and how many readings it took.
@@ -46,5 +45,5 @@ pub struct Missed {
 pub struct Batched {
     pub state: State,
     pub taken: usize,
-    pub outcome: Outcome,
+    pub outcome: Result<(), Rejection>,
 }

@@ -1,15 +1,15 @@
 // The numbers of a snapshot, each read where it stands, in bytes of any length: document 01, "Commands". What stands after the end counts as 0.
 #![tactic(auto)]
 
-ghost use Rattle.std.specs.Prelude.{◌≡◌, List, ℕ, ◌+◌, ◌≤◌, pos, length, replicate};
+ghost use Rattle.std.specs.Prelude.{◌≡◌, ◌+◌, ◌≤◌, pos, length, replicate};
 ghost use Rattle.layout.specs.Bytes.{signed_at};
 ghost use Rattle.layout.specs.CommandTable.{season_length};
 ghost use Rattle.layout.specs.Layout.{season_at, outside_in, scored_in, score_in};
 ghost use Rattle.fields.specs.Fields.{cells_at, decoded};
 
 use layout::{
-    ALPHA_AT, BETA_AT, GAMMA_AT, LEVEL_VALUE_AT, MODEL_AT, MODEL_BYTE_AT, PERIOD_AT, PHI_AT,
-    READINGS_AT, SCORE_AT, SEASON_LENGTH, SUM_HIGH_AT, SUM_LOW_AT, TREND_VALUE_AT, opener,
+    ALPHA_AT, BETA_AT, GAMMA_AT, LEVEL_VALUE_AT, MODEL_AT, MODEL_BYTE_AT, Opcode, PERIOD_AT,
+    PHI_AT, READINGS_AT, SCORE_AT, SEASON_LENGTH, SUM_HIGH_AT, SUM_LOW_AT, TREND_VALUE_AT, opener,
     season_at,
 };
 use models::MAX_PERIOD;
@@ -27,21 +27,55 @@ pub fn is_outside(s: &[u8]) -> bool
 pub fn is_scored(s: &[u8]) -> bool
     ensures { result ≡ scored_in s.now }
 {
-    byte_at(s, SCORE_AT) == 0x15
+    byte_at(s, SCORE_AT) == Opcode::Score as u8
 }
 
-// The score, all 0 without command 15.
-fn score_in(s: &[u8], scored: bool) -> Score
-    requires { scored ≡ scored_in s.now }
-    ensures { result ≡ score_in s.now }
-{
-    if !scored {
-        return no_score();
+// The bytes of a snapshot, and whether they have the command 15, looked at once.
+#[derive(Clone, Copy)]
+struct Snapshot<'a> {
+    bytes: &'a [u8],
+    scored: bool,
+    ghost told: { scored ≡ scored_in bytes.now },
+}
+
+impl<'a> Snapshot<'a> {
+    fn new(bytes: &'a [u8]) -> Snapshot<'a>
+        ensures { result.bytes.now ≡ bytes.now }
+    {
+        Snapshot {
+            bytes,
+            scored: is_scored(bytes),
+        }
     }
-    Score {
-        readings: read_u64(s, READINGS_AT),
-        high: read_u64(s, SUM_HIGH_AT),
-        low: read_u64(s, SUM_LOW_AT),
+
+    // The score, all 0 without command 15.
+    fn score(self) -> Score
+        ensures { result ≡ score_in self.entry.bytes.now }
+    {
+        if !self.scored {
+            return no_score();
+        }
+        Score {
+            readings: read_u64(self.bytes, READINGS_AT),
+            high: read_u64(self.bytes, SUM_HIGH_AT),
+            low: read_u64(self.bytes, SUM_LOW_AT),
+        }
+    }
+
+    // The cells of a state, which has 48 places: what stands for a later one changes none. Where all are there, the compiled loop has no test of the length.
+    fn read_cells(self, m: u8, cells: &mut [i64; 48])
+        requires { cells.old ≡ replicate 48 (pos 0) }
+        ensures { cells.new ≡ cells_at self.entry.bytes.now m }
+    {
+        let n = m.min(MAX_PERIOD);
+        let whole = season_at(self.scored, n) <= self.bytes.len();
+        for k in 0..n {
+            cells[k as usize] = if whole {
+                whole_season(self.bytes, self.scored, k)
+            } else {
+                season_in(self.bytes, self.scored, k)
+            };
+        }
     }
 }
 
@@ -55,13 +89,6 @@ pub fn season_in(s: &[u8], scored: bool, k: u8) -> i64
     whole_season(s, scored, k)
 }
 
-// A state has cells for 48 places: what stands for a later one changes none.
-fn places(m: u8) -> u8
-    ensures { (result ≤ 48) × ((s : List ℕ) → cells_at s result ≡ cells_at s m) }
-{
-    if m < MAX_PERIOD { m } else { MAX_PERIOD }
-}
-
 // The same of one that is there: a part of its own length lacks no byte, so that no test is left in the compiled code.
 fn whole_season(s: &[u8], scored: bool, k: u8) -> i64
     requires { season_at scored k + season_length ≤ length s.now }
@@ -73,52 +100,13 @@ fn whole_season(s: &[u8], scored: bool, k: u8) -> i64
     read_i64(&s[from..end], 0)
 }
 
-// The cells of n places, all of which are there.
-fn whole_cells(s: &[u8], scored: bool, n: u8, cells: &mut [i64; 48])
-    requires { (n ≤ 48) × (cells.old ≡ replicate 48 (pos 0)) × (scored ≡ scored_in s.now) × (season_at scored n ≤ length s.now) }
-    ensures { cells.new ≡ cells_at s.now n }
-{
-    let mut k = 0;
-    while k < n {
-        let v = whole_season(s, scored, k);
-        cells[k as usize] = v;
-        k += 1;
-    }
-}
-
-// The cells of n places, before or among which the bytes end.
-fn cut_cells(s: &[u8], scored: bool, n: u8, cells: &mut [i64; 48])
-    requires { (n ≤ 48) × (cells.old ≡ replicate 48 (pos 0)) × (scored ≡ scored_in s.now) }
-    ensures { cells.new ≡ cells_at s.now n }
-{
-    let mut k = 0;
-    while k < n {
-        let v = season_in(s, scored, k);
-        cells[k as usize] = v;
-        k += 1;
-    }
-}
-
-fn read_cells(s: &[u8], scored: bool, m: u8, cells: &mut [i64; 48])
-    requires { (cells.old ≡ replicate 48 (pos 0)) × (scored ≡ scored_in s.now) }
-    ensures { cells.new ≡ cells_at s.now m }
-{
-    let n = places(m);
-    if s.len() < season_at(scored, n) {
-        cut_cells(s, scored, n, cells);
-        return;
-    }
-    whole_cells(s, scored, n, cells);
-}
-
 // The state that the bytes hold.
 pub fn state_at(s: &[u8]) -> State
     ensures { result ≡ decoded s.now }
 {
-    let scored = is_scored(s);
+    let snapshot = Snapshot::new(s);
     let period = byte_at(s, PERIOD_AT);
-    let at = season_at(scored, period);
-    let score = score_in(s, scored);
+    let at = season_at(snapshot.scored, period);
     let mut state = State {
         outside: is_outside(s),
         model: byte_at(s, MODEL_BYTE_AT),
@@ -132,8 +120,8 @@ pub fn state_at(s: &[u8]) -> State
         seasonal: [0; 48],
         index: byte_at(s, at + 1),
         count: read_u64(s, at + 2),
-        score,
+        score: snapshot.score(),
     };
-    read_cells(s, scored, period, &mut state.seasonal);
+    snapshot.read_cells(period, &mut state.seasonal);
     state
 }

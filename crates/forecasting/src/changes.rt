@@ -4,25 +4,27 @@ ghost use Rattle.calendars.specs.Calendars.{calendar_of};
 ghost use Rattle.forecasts.specs.Calendars.{forecast_on, forecasts_on, forecast_cells_on};
 
 use super::sums::{fill, place_at, trend_line};
-use horizons::forecast_code;
+use horizons::{MAX_HORIZON, Request, check_forecast, check_forecasts_to};
 use models::ties_to_even;
-use state::{Answer, BAD_CALENDAR, Outcome, SHORT_BUFFER, State, first, unless};
+use state::{Rejection, State, unless};
 use turns::calendar_ok;
 
 // The forecast for one horizon.
-pub fn forecast_on(s: State, skipped: &[u64], repeated: &[u64], h: u32) -> Answer
+pub fn forecast_on(s: State, skipped: &[u64], repeated: &[u64], h: u32) -> Result<i64, Rejection>
     ensures { result ≡ forecast_on (calendar_of skipped.now repeated.now) s h }
 {
-    let n = forecast_code(s, h);
-    if n != 0 {
-        return Answer::Rejected(n);
-    }
-    if !calendar_ok(s.period, skipped, repeated) {
-        return Answer::Rejected(BAD_CALENDAR);
-    }
-    let k = place_at(s, skipped, repeated, h) as usize;
+    check_forecast(s, h)?;
+    unless(
+        calendar_ok(s.period, skipped, repeated),
+        Rejection::BadCalendar,
+    )?;
+    let r = Request {
+        state: &s,
+        horizon: h,
+    };
+    let k = place_at(r, skipped, repeated) as usize;
     let season = s.seasonal[k];
-    Answer::Accepted(trend_line(ties_to_even(s.model), s.level, s.phi, s.trend, h) + season)
+    Ok(trend_line(ties_to_even(s.model), s.level, s.phi, s.trend, h) + season)
 }
 
 // The forecasts for all horizons to h, in the first h elements of a buffer; a rejected call writes nothing.
@@ -32,19 +34,19 @@ pub fn forecasts_on(
     repeated: &[u64],
     h: u32,
     values: &mut [i64],
-) -> Outcome
+) -> Result<(), Rejection>
     ensures answer { result ≡ forecasts_on (calendar_of skipped.now repeated.now) s h (length values.old) }
     ensures buffer { values.new ≡ forecast_cells_on (calendar_of skipped.now repeated.now) s h values.old }
 {
-    let count = h as usize;
-    let room = unless(count <= values.len(), SHORT_BUFFER);
-    let n = first(forecast_code(s, h), room);
-    if n != 0 {
-        return Outcome::Rejected(n);
-    }
-    if !calendar_ok(s.period, skipped, repeated) {
-        return Outcome::Rejected(BAD_CALENDAR);
-    }
-    fill(s, skipped, repeated, count, values);
-    Outcome::Accepted
+    check_forecasts_to(MAX_HORIZON, s, h, values.len())?;
+    unless(
+        calendar_ok(s.period, skipped, repeated),
+        Rejection::BadCalendar,
+    )?;
+    let r = Request {
+        state: &s,
+        horizon: h,
+    };
+    fill(r, skipped, repeated, values);
+    Ok(())
 }

@@ -5,58 +5,55 @@ pub mod changes;
 mod sums;
 
 ghost use Rattle.std.specs.Prelude.{◌≡◌, ◌≤◌, length};
+ghost use Rattle.state.specs.Rejections.{outcome};
 ghost use Rattle.forecasts.specs.Forecasts.{forecast_to, forecasts_to, forecast_cells_to, forecast, forecasts, forecast_cells, display_forecast, display_forecasts, display_forecast_cells, forecast_from_code, forecast_from};
 
-use horizons::{MAX_HORIZON, forecast_code_to, horizon_ok};
+use horizons::{MAX_HORIZON, Request, check_forecast_to, check_forecasts_to, horizon_ok};
 use models::{ONE, ties_to_even};
 use ranges::in_range;
-use state::{
-    Answer, BAD_HORIZON, BAD_PARAMETER, BAD_VALUE, Outcome, SHORT_BUFFER, State, first, unless,
-};
+use state::{Rejection, State, unless};
 use sums::{fill, season_at, trend_line};
 
 // The longest horizon of the bedside display, which has 48 cells (document 02, W-206).
 const DISPLAY_HORIZON: u32 = 48;
 
-fn forecast_to(limit: u32, s: State, h: u32) -> Answer
+fn forecast_to(limit: u32, s: State, h: u32) -> Result<i64, Rejection>
     requires { limit ≤ 512 }
     ensures { result ≡ forecast_to limit s h }
 {
-    let n = forecast_code_to(limit, s, h);
-    if n != 0 {
-        return Answer::Rejected(n);
-    }
-    Answer::Accepted(
-        trend_line(ties_to_even(s.model), s.level, s.phi, s.trend, h) + season_at(s, h),
-    )
+    check_forecast_to(limit, s, h)?;
+    let r = Request {
+        state: &s,
+        horizon: h,
+    };
+    Ok(trend_line(ties_to_even(s.model), s.level, s.phi, s.trend, h) + season_at(r))
 }
 
 // The forecast for one horizon.
-pub fn forecast(s: State, h: u32) -> Answer
+pub fn forecast(s: State, h: u32) -> Result<i64, Rejection>
     ensures { result ≡ forecast s h }
 {
     forecast_to(MAX_HORIZON, s, h)
 }
 
-fn forecasts_to(limit: u32, s: State, h: u32, values: &mut [i64]) -> Outcome
+fn forecasts_to(limit: u32, s: State, h: u32, values: &mut [i64]) -> Result<(), Rejection>
     requires { limit ≤ 512 }
     ensures answer { result ≡ forecasts_to limit s h (length values.old) }
     ensures buffer { values.new ≡ forecast_cells_to limit s h values.old }
 {
-    let count = h as usize;
-    let room = unless(count <= values.len(), SHORT_BUFFER);
-    let n = first(forecast_code_to(limit, s, h), room);
-    if n != 0 {
-        return Outcome::Rejected(n);
-    }
+    check_forecasts_to(limit, s, h, values.len())?;
     let skipped = [0u64; 0];
     let repeated = [0u64; 0];
-    fill(s, &skipped, &repeated, count, values);
-    Outcome::Accepted
+    let r = Request {
+        state: &s,
+        horizon: h,
+    };
+    fill(r, &skipped, &repeated, values);
+    Ok(())
 }
 
 // The forecasts for all horizons to h, in the first h elements of a buffer; a rejected call writes nothing.
-pub fn forecasts(s: State, h: u32, values: &mut [i64]) -> Outcome
+pub fn forecasts(s: State, h: u32, values: &mut [i64]) -> Result<(), Rejection>
     ensures answer { result ≡ forecasts s h (length values.old) }
     ensures buffer { values.new ≡ forecast_cells s h values.old }
 {
@@ -64,36 +61,41 @@ pub fn forecasts(s: State, h: u32, values: &mut [i64]) -> Outcome
 }
 
 // The bedside display's forecast for one horizon.
-pub fn display_forecast(s: State, h: u32) -> Answer
+pub fn display_forecast(s: State, h: u32) -> Result<i64, Rejection>
     ensures { result ≡ display_forecast s h }
 {
     forecast_to(DISPLAY_HORIZON, s, h)
 }
 
 // The bedside display's forecasts for all horizons to h; a rejected call writes nothing.
-pub fn display_forecasts(s: State, h: u32, values: &mut [i64]) -> Outcome
+pub fn display_forecasts(s: State, h: u32, values: &mut [i64]) -> Result<(), Rejection>
     ensures answer { result ≡ display_forecasts s h (length values.old) }
     ensures buffer { values.new ≡ display_forecast_cells s h values.old }
 {
     forecasts_to(DISPLAY_HORIZON, s, h, values)
 }
 
-// What rejects a forecast on numbers, or 0.
-fn from_code(level: i64, phi: u32, trend: i64, season: i64, h: u32) -> u8
-    ensures { result ≡ forecast_from_code level phi trend season h }
+// What rejects a forecast on numbers.
+fn check_from(level: i64, phi: u32, trend: i64, season: i64, h: u32) -> Result<(), Rejection>
+    ensures { result ≡ outcome (forecast_from_code level phi trend season h) }
 {
     let ranges = in_range(level) & in_range(trend) & in_range(season);
-    let code = first(unless(phi <= ONE, BAD_PARAMETER), unless(ranges, BAD_VALUE));
-    first(code, unless(horizon_ok(MAX_HORIZON, h), BAD_HORIZON))
+    unless(phi <= ONE, Rejection::BadParameter)?;
+    unless(ranges, Rejection::BadValue)?;
+    unless(horizon_ok(MAX_HORIZON, h), Rejection::BadHorizon)
 }
 
 // The forecast on numbers: the rounding rule, the level, phi, the trend and the season value of the horizon.
-pub fn forecast_from(even: bool, level: i64, phi: u32, trend: i64, season: i64, h: u32) -> Answer
+pub fn forecast_from(
+    even: bool,
+    level: i64,
+    phi: u32,
+    trend: i64,
+    season: i64,
+    h: u32,
+) -> Result<i64, Rejection>
     ensures { result ≡ forecast_from even level phi trend season h }
 {
-    let n = from_code(level, phi, trend, season, h);
-    if n != 0 {
-        return Answer::Rejected(n);
-    }
-    Answer::Accepted(trend_line(even, level, phi, trend, h) + season)
+    check_from(level, phi, trend, season, h)?;
+    Ok(trend_line(even, level, phi, trend, h) + season)
 }

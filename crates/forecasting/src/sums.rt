@@ -3,15 +3,13 @@ ghost use Rattle.std.specs.Prelude.{◌≡◌, ◌++◌, ◌≤◌, ◌<◌, len
 ghost use Rattle.integers.specs.Bounds.{Within};
 ghost use Rattle.state.specs.Fixed.{share, max_value};
 ghost use Rattle.calendars.specs.Calendars.{calendar_of};
-ghost use Rattle.state.specs.States.{check};
-ghost use Rattle.state.specs.Valid.{Valid};
 ghost use Rattle.ets.specs.Bounds.{Walkable};
 ghost use Rattle.forecasts.specs.Forecasts.{trend_line, season_at};
 ghost use Rattle.forecasts.specs.Calendars.{place_by, forecast_list_by};
 
+use horizons::Request;
 use models::{has_season, ties_to_even};
 use rounding::round;
-use state::State;
 use turns::{start, walk};
 
 // R(a × x): the share that a parameter gives of x. By each rule on its own, so that the compiler takes the test out of the loops below.
@@ -42,55 +40,56 @@ pub fn trend_line(even: bool, level: i64, phi: u32, trend: i64, h: u32) -> i64
     line
 }
 
-pub fn season_at(s: State, h: u32) -> i64
-    requires { Valid s × (1 ≤ h) × (h ≤ 512) }
-    ensures value { result ≡ season_at s h }
+// The season value of the request's horizon.
+pub fn season_at(r: Request<'_>) -> i64
+    ensures value { result ≡ season_at r.entry.state.now r.entry.horizon }
     ensures bound { Within max_value result }
 {
+    let s = r.state;
     if !has_season(s.model) {
         return 0;
     }
     let p = s.index as u32;
     let m = s.period as u32;
-    let k = ((p + h - 1) % m) as usize;
+    let k = ((p + r.horizon - 1) % m) as usize;
     s.seasonal[k]
 }
 
-// The place of step h from a state: the one that it uses.
-pub fn place_at(s: State, skipped: &[u64], repeated: &[u64], h: u32) -> u8
-    requires { (check s ≡ 0) × Walkable (calendar_of skipped.now repeated.now) s.period × (h ≤ 512) }
-    ensures value { result ≡ place_by (calendar_of skipped.now repeated.now) s h }
+// The place of the request's horizon: the one that its step uses.
+pub fn place_at(r: Request<'_>, skipped: &[u64], repeated: &[u64]) -> u8
+    requires { Walkable (calendar_of skipped.now repeated.now) r.state.now.period }
+    ensures value { result ≡ place_by (calendar_of skipped.now repeated.now) r.entry.state.now r.entry.horizon }
     ensures bound { result < 48 }
 {
+    let s = r.state;
     let mut used = s.index;
     let mut p = s.index;
     let mut n = s.count;
     let mut at = start();
-    let mut i = 0;
-    while i < h {
+    for _ in 0..r.horizon {
         let t = walk(skipped, repeated, at, s.period, p, n);
         used = t.used;
         p = t.next;
         at = t.at;
         n += 1;
-        i += 1;
     }
     used
 }
 
-// The forecasts for the horizons 1 to h: the trend and the seasonal index move on from one to the next, and the lists of clock changes are walked once.
-pub fn fill(s: State, skipped: &[u64], repeated: &[u64], h: usize, values: &mut [i64])
-    requires { (check s ≡ 0) × Walkable (calendar_of skipped.now repeated.now) s.period × (h ≤ 512) × (h ≤ length values.old) }
-    ensures { values.new ≡ forecast_list_by (calendar_of skipped.now repeated.now) s h ++ drop h values.old }
+// The forecasts for the horizons 1 to the request's: the trend and the seasonal index move on from one to the next, and the lists of clock changes are walked once.
+pub fn fill(r: Request<'_>, skipped: &[u64], repeated: &[u64], values: &mut [i64])
+    requires { Walkable (calendar_of skipped.now repeated.now) r.state.now.period × (r.horizon ≤ length values.old) }
+    ensures { values.new ≡ forecast_list_by (calendar_of skipped.now repeated.now) r.entry.state.now r.entry.horizon ++ drop r.entry.horizon values.old }
 {
+    let s = r.state;
     let even = ties_to_even(s.model);
     let mut line = s.level;
     let mut d = s.trend;
     let mut p = s.index;
     let mut n = s.count;
     let mut at = start();
-    let mut i = 0;
-    while i < h {
+    let h = r.horizon as usize;
+    for i in 0..h {
         d = share(even, s.phi, d);
         line = line + d;
         let t = walk(skipped, repeated, at, s.period, p, n);
@@ -100,6 +99,5 @@ pub fn fill(s: State, skipped: &[u64], repeated: &[u64], h: usize, values: &mut 
         p = t.next;
         at = t.at;
         n += 1;
-        i += 1;
     }
 }

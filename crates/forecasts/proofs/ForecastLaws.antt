@@ -2,7 +2,6 @@
 use Prim.Native.Nat.{ℕ, zero, suc, ◌+◌, ◌-◌, ◌*◌, ◌%◌, ◌^◌, ◌<◌, ◌≤◌}
 use mathlib.Core.Path.{◌≡◌, refl, sym, ◌∙◌}
 use mathlib.Core.Bool.{Bool, true, false, cond}
-use mathlib.Core.List.{List, ◌++◌}
 use native.Mathlib.Decide.{dec_le}
 use native.Mathlib.Nat.{suc-mod, mod-lt, mod-eq_of_lt, mod_self}
 use native.Mathlib.Omega.{arith}
@@ -12,11 +11,10 @@ use lib.Signed.{mag}
 use mir.Syntax.{w64}
 use mir.Val.{SFits, to_z, of_z}
 use mir.ValLaws.{to_z-of_z}
-use lib.ListN.{length, get_or, set, drop, length-append}
+use lib.ListN.{length, get_or, length-append}
 use borrow.Author.Tests.{lt-ltb, le-ltb, le-leb, leb-true}
 use Rattle.integers.specs.Bounds.{Within}
 use Rattle.integers.proofs.Difference.{back}
-use Rattle.integers.proofs.Snoc.{snoc-more}
 use Rattle.integers.proofs.Bounds.{within-le, within-add, within-fits}
 use Rattle.state.specs.Fixed.{share}
 use Rattle.models.specs.Models.{has_season}
@@ -28,7 +26,7 @@ use Rattle.state.proofs.Rounding.{share-within}
 use Rattle.state.specs.Valid.{Valid}
 use Rattle.state.proofs.Passing.{bounded, range-in}
 use Rattle.calendars.specs.Turns.{next_index}
-use Rattle.forecasts.specs.Forecasts.{trend_at, trend_line, season_at, horizon_ok, forecast_code_to, forecast_code, forecast_from_code, forecast_of, forecast_list}
+use Rattle.forecasts.specs.Forecasts.{trend_at, trend_line, season_at, horizon_ok, forecast_code_to, forecast_code, forecast_from_code, forecast_list}
 
 -- the horizon of a forecast that is not rejected
 pub record Ready (limit : ℕ) (s : State) (h : ℕ) : Type 0 where
@@ -116,12 +114,6 @@ pub list_length : (s : State) (h : ℕ) → length (forecast_list s h) ≡ h
 unfolding forecast_list
 list_length s zero = refl
 list_length s (suc h) = rw (length-append, list_length s h) (omega arith)
-
--- one more forecast stored
-pub list-more : (s : State) (i : ℕ) (cells : List ℤ) → i < length cells →
-    set (forecast_list s i ++ drop i cells) i (forecast_of s (suc i)) ≡ forecast_list s (suc i) ++ drop (suc i) cells
-unfolding forecast_list
-list-more s i cells h = snoc-more (forecast_list s) (λ (n : ℕ). forecast_of s (suc n)) (pos 0) (λ n. refl) (list_length s) i cells h
 
 -- ---- a turn of the loops: d is the trend and l the line of i steps from numbers within their bounds, and r is the share F of d
 pub record Turn (even : Bool) (l : ℤ) (F : ℕ) (b : ℤ) (i : ℕ) (line r : ℤ) : Type 0 where

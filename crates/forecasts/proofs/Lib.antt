@@ -3,3 +3,4 @@ pub mod CalendarLaws
 pub mod MissingLaws
 pub mod DisplayLaws
 pub mod Computed
+pub mod Codes

@@ -1,11 +1,9 @@
 -- Document 02, W-208: the forecasts that walk a calendar of clock changes, with refusal 20 right after 12.
 use Rattle.std.specs.Prelude.{ℕ, zero, suc, ◌+◌, List, [], ◌∷◌, ◌++◌, ℤ, pos, ◌+ℤ◌, length, drop, get_or}
 use Rattle.calendars.specs.Calendars.{Calendar}
-use Rattle.state.specs.Rejections.{◌then◌, accepting, outcome, answer}
+use Rattle.state.specs.Rejections.{◌then◌, accepting, outcome, answer, Outcome, Answer}
 use Rattle.models.specs.Models.{ties_to_even}
 use Rattle.state.specs.declared.State.{State}
-use Rattle.state.specs.declared.Answer.{Answer}
-use Rattle.state.specs.declared.Outcome.{Outcome}
 use Rattle.calendars.specs.Turns.{turn_from}
 use Rattle.ets.specs.Calendars.{calendar_code}
 use Rattle.forecasts.specs.Forecasts.{trend_line, forecast_code, forecasts_code}

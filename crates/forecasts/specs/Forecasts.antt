@@ -1,12 +1,10 @@
 -- Document 01, "Forecast and variance": the forecast for one horizon and for all.
 use Rattle.std.specs.Prelude.{ℕ, zero, suc, ◌+◌, ◌-◌, ◌%◌, Bool, cond, ◌&&◌, List, [], ◌∷◌, ◌++◌, leb, ℤ, pos, ◌+ℤ◌, length, drop, get_or}
-use Rattle.state.specs.Rejections.{unless, ◌then◌, accepting, outcome, answer, bad_parameter, bad_value, bad_horizon, short_buffer}
+use Rattle.state.specs.Rejections.{unless, ◌then◌, accepting, outcome, answer, bad_parameter, bad_value, bad_horizon, short_buffer, Outcome, Answer}
 use Rattle.state.specs.Fixed.{share, in_range}
 use Rattle.models.specs.Models.{has_season, ties_to_even}
 use Rattle.state.specs.States.{check}
 use Rattle.state.specs.declared.State.{State}
-use Rattle.state.specs.declared.Answer.{Answer}
-use Rattle.state.specs.declared.Outcome.{Outcome}
 
 -- d1 = R(F × b), and each next d is R(F × the one before), by the rounding rule
 unfoldable pub trend_at : Bool → ℕ → ℤ → ℕ → ℤ

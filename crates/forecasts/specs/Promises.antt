@@ -1,11 +1,9 @@
 -- What holds of forecasts and missing readings together (document 02, W-202), and of the bedside display's forecasts (W-206).
-use Rattle.std.specs.Prelude.{ℕ, ◌+◌, ◌≤◌, ◌<◌, false, List, [], ◌≡◌, ℤ, pos}
-use Rattle.state.specs.Rejections.{◌then◌, bad_horizon}
+use Rattle.std.specs.Prelude.{ℕ, ◌+◌, ◌≤◌, ◌<◌, false, List, [], ◌≡◌, ℤ, pos, Ok}
+use Rattle.state.specs.Rejections.{◌then◌, bad_horizon, rejects}
 use Rattle.state.specs.Scores.{no_score}
 use Rattle.state.specs.States.{state_of, check}
 use Rattle.state.specs.declared.State.{State}
-use Rattle.state.specs.declared.Answer.TheVariants as AnswerOf
-use Rattle.state.specs.declared.Outcome.TheVariants as OutcomeOf
 use Rattle.ets.specs.Steps.{missing_code, missing}
 use Rattle.forecasts.specs.Forecasts.{max_horizon, forecast_of, forecast, forecasts, forecast_cells, display_forecast, display_forecasts, display_forecast_cells}
 
@@ -30,8 +28,8 @@ pub record SameAsPhone (s : State) (h : ℕ) : Type 0 where
 
 -- rejected by the state's checks, then by 11, and no cell is touched
 pub record AboveLimit (s : State) (h : ℕ) : Type 0 where
-  pub one : display_forecast s h ≡ AnswerOf.Rejected (check s then bad_horizon)
-  pub all : (room : ℕ) → display_forecasts s h room ≡ OutcomeOf.Rejected (check s then bad_horizon)
+  pub one : display_forecast s h ≡ rejects (check s then bad_horizon)
+  pub all : (room : ℕ) → display_forecasts s h room ≡ rejects (check s then bad_horizon)
   pub cells : (cells : List ℤ) → display_forecast_cells s h cells ≡ cells
 
 -- computed: a level that rises by one reading unit a step
@@ -39,9 +37,9 @@ abbrev pub rising : State
 rising = state_of false 1 0 0 0 0 65536 (pos 0) (pos 65536) [] 0 0 no_score
 
 pub record AtTheLimit : Type 0 where
-  pub last : display_forecast rising 48 ≡ AnswerOf.Accepted (pos 3145728)
-  pub next : display_forecast rising 49 ≡ AnswerOf.Rejected 11
-  pub phone : forecast rising 49 ≡ AnswerOf.Accepted (pos 3211264)
+  pub last : display_forecast rising 48 ≡ Ok (pos 3145728)
+  pub next : display_forecast rising 49 ≡ rejects 11
+  pub phone : forecast rising 49 ≡ Ok (pos 3211264)
 
 -- for every state and every horizon
 pub record DisplayLaws : Type 0 where

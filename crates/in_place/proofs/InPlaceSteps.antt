@@ -1,6 +1,6 @@
 -- A call in place works on the numbers of its slice: they are those of the state that the slice holds, and what is written is the snapshot of the next one.
 use Prim.Native.Nat.{ℕ, ◌+◌, ◌-◌, ◌%◌, ◌≤◌, ◌<◌}
-use mathlib.Core.Path.{◌≡◌, refl, sym, ap, ◌∙◌}
+use mathlib.Core.Path.{◌≡◌, refl, sym, ap, subst, ◌∙◌}
 use mathlib.Core.Bool.{Bool, true, false, cond, ◌||◌, false≢true}
 use mathlib.Core.List.{List}
 use native.Mathlib.Nat.{mod-lt}
@@ -11,14 +11,17 @@ use lib.IntN.{ℤ, pos}
 use lib.ListN.{length, get_or, set}
 use Rattle.integers.specs.Bounds.{Within}
 use Rattle.integers.proofs.Bounds.{within-zero}
-use Rattle.state.specs.Rejections.{unless, ◌then◌, short_buffer}
+use Rattle.state.specs.Rejections.{unless, ◌then◌, short_buffer, gives, outcome}
+use Rattle.state.specs.declared.Rejection.{Rejection}
+use Rattle.state.proofs.Answers.{as-outcome, given-accepted, check-ends, check-keeps-then}
+use Rattle.std.specs.Prelude.{Result, Ok, Err, IsErrAnd}
 use Rattle.state.specs.Fixed.{max_count}
 use Rattle.models.specs.Models.{has_season, ties_to_even}
 use Rattle.state.specs.Scores.{no_score}
 use Rattle.state.specs.States.{check, index_ok, count_ok}
 use Rattle.state.specs.declared.Score.{Score}
 use Rattle.state.specs.declared.State.{State}
-use Rattle.state.proofs.Tests.{unless-zero, then-zero, then-first}
+use Rattle.state.proofs.Tests.{unless-zero, then-none, then-assoc}
 use Rattle.state.proofs.Passing.{bounded, no_season, with_season}
 use Rattle.integers.proofs.Tests.{both}
 use Rattle.calendars.specs.Turns.{next_index}
@@ -28,20 +31,20 @@ use Rattle.ets.specs.Updates.{numbers_of, corrections, update, advance, update_m
 use Rattle.state.specs.declared.Numbers.{Numbers}
 use Rattle.ets.specs.declared.Update.{Update}
 use Rattle.ets.proofs.StepLaws.{step-facts}
-use Rattle.ets.proofs.UpdateLaws.{update-code, update-is, update-missing-is}
+use Rattle.ets.proofs.UpdateLaws.{update-is, update-missing-is}
 use Rattle.layout.specs.Bytes.{AreBytes}
 use Rattle.layout.specs.CommandTable.{score_length}
 use Rattle.layout.specs.Layout.{score_at, end_at, size_of, scored_in, period_in, score_in, season_in, index_in, count_in}
 use Rattle.snapshot.specs.Snapshots.{open_code, open_offset, cells_at, decoded}
-use Rattle.slices.specs.Slices.{spare, in_place_code, score_value, state_value, numbers_in, checked_in, not_opened, opened_in}
+use Rattle.slices.specs.Slices.{spare, in_place_code, score_value, state_value, numbers_in, checked_in, opened_in}
 use Rattle.snapshot.specs.Facts.{Room}
 use Rattle.slices.specs.declared.Checked.{Checked}
 use Rattle.snapshot.proofs.Accepting.{accepted, accepted-size, accepted-room}
 use Rattle.slices.proofs.SliceLaws.{one-snapshot}
 use Rattle.snapshot.proofs.Decoded.{cell-read, cell-none, accepted-passes, length-decoded}
 use Rattle.saving.specs.Encoding.{model_bytes, encoded}
-use Rattle.in_place.specs.InPlace.{room_code, rewrite_code, rejection, bytes_after, number_after}
-use Rattle.in_place.specs.Facts.{ahead_in, Held, Found, advanced_on, season_put, step_written}
+use Rattle.in_place.specs.InPlace.{room_code, rewrite_code, rejection, bytes_after}
+use Rattle.in_place.specs.Facts.{ahead_in, Held, advanced_on, season_put, step_written}
 use Rattle.in_place.proofs.Patches.{snapshot_of, level-written, score-written, season-written, position-written}
 use Rattle.saving.proofs.Lengths.{length-model, length-encoded}
 use Rattle.round_trips.proofs.RoundTrip.{whole}
@@ -85,13 +88,15 @@ held d b z =
     }
 
 -- and so are those that a call goes by
-pub found : (d : List ℕ) (x : Checked) → AreBytes d → x ≡ opened_in d → Found d x
+pub found : (d : List ℕ) {x : Checked} → AreBytes d → Ok x ≡ opened_in d → (in_place_code d ≡ 0) × Held d x
 unfolding opened_in
-found d x b e = rw e (go (eqb (in_place_code d) 0) refl)
-  where
-    go : (t : Bool) → eqb (in_place_code d) 0 ≡ t → Found d (cond t (checked_in d) (not_opened (in_place_code d)))
-    go true z = record { code = sym (eqb-true (in_place_code d) 0 z); held = held d b }
-    go false z = record { code = refl; held = λ y. absurd (eqb-false (in_place_code d) 0 z y) }
+found d {x} b q =
+    let g = given-accepted (in_place_code d) (checked_in d) x (sym q) in
+    (g.0, subst (λ (y : Checked). Held d y) g.1 (held d b g.0))
+
+pub not-found : (d : List ℕ) {e : Rejection} → Err e ≡ opened_in d → Err e ≡ outcome (in_place_code d)
+unfolding opened_in
+not-found d q = as-outcome (in_place_code d) (checked_in d) q
 
 -- ---- the season value of a horizon
 module _ (d : List ℕ) (ok : open_code d ≡ 0) (h : ℕ) where
@@ -173,20 +178,31 @@ pub record Direct (s : State) (y : ℤ) (u : Update) : Type 0 where
   pub count : s.count < max_count
 
 module _ (s : State) (ok : check s ≡ 0) (y : ℤ) where
-  pub direct-code : (update (ties_to_even s.model) (numbers_of s) y).code ≡ step_code s y
-  direct-code = update-code s ok y
+  pub not-direct : {e : Rejection} → Err e ≡ update (ties_to_even s.model) (numbers_of s) y → Err e ≡ outcome (step_code s y)
+  not-direct q = as-outcome (step_code s y) (corrections (terms_of s) (residual_of s y)) (q ∙ update-is s ok y)
 
-  pub direct : step_code s y ≡ 0 → Direct s y (update (ties_to_even s.model) (numbers_of s) y)
+  pub direct : {u : Update} → Ok u ≡ update (ties_to_even s.model) (numbers_of s) y → (step_code s y ≡ 0) × Direct s y u
   unfolding corrections
-  direct z =
-      let u = update-is s ok y z in
-      record {
-        level = ap (λ (v : Update). v.level) u;
-        trend = ap (λ (v : Update). v.trend) u;
-        season = ap (λ (v : Update). v.season) u;
-        residual = ap (λ (v : Update). v.residual) u;
-        count = (step-facts s y z).room;
-      }
+  direct {u} q =
+      let g = given-accepted (step_code s y) (corrections (terms_of s) (residual_of s y)) u (sym (q ∙ update-is s ok y)) in (
+        g.0,
+        record {
+          level = sym (ap (λ (v : Update). v.level) g.1);
+          trend = sym (ap (λ (v : Update). v.trend) g.1);
+          season = sym (ap (λ (v : Update). v.season) g.1);
+          residual = sym (ap (λ (v : Update). v.residual) g.1);
+          count = (step-facts s y g.0).room;
+        },
+      )
+
+module _ (s : State) (ok : check s ≡ 0) where
+  pub not-missed : {e : Rejection} → Err e ≡ update_missing (ties_to_even s.model) (numbers_of s) → Err e ≡ outcome (missing_code s)
+  not-missed q = as-outcome (missing_code s) (advance (terms_of s)) (q ∙ update-missing-is s ok)
+
+  pub missed : {u : Update} → Ok u ≡ update_missing (ties_to_even s.model) (numbers_of s) → (missing_code s ≡ 0) × (u ≡ advance (terms_of s))
+  missed {u} q =
+      let g = given-accepted (missing_code s) (advance (terms_of s)) u (sym (q ∙ update-missing-is s ok)) in
+      (g.0, sym g.1)
 
 -- ---- so what a call stored in the saved form, by the numbers that it goes by, is the snapshot of the next state
 module _ (d : List ℕ) (x : Checked) (h : Held d x) (e : List ℕ) (w : e ≡ encoded (decoded d)) where
@@ -198,19 +214,18 @@ module _ (d : List ℕ) (x : Checked) (h : Held d x) (e : List ℕ) (w : e ≡ e
       let n : length e ≡ size_of (decoded d).period = ap length w ∙ length-encoded (decoded d) in
       rw (h.period, h.index) (record { size = omega arith; period = h.room.period; index = h.room.index })
 
-  pub step-stored : (y : ℤ) (u : Update) (score : Score) → u ≡ update (ties_to_even (decoded d).model) (numbers_of (decoded d)) y → step_code (decoded d) y ≡ 0 → score ≡ score_after (decoded d).score (square_at (decoded d) y) → step_written e x.period x.index x.numbers.count u score ≡ encoded (after_reading (decoded d) y)
-  step-stored y u score q z c =
+  pub step-stored : (y : ℤ) (u : Update) (score : Score) → Direct (decoded d) y u → score ≡ score_after (decoded d).score (square_at (decoded d) y) → step_written e x.period x.index x.numbers.count u score ≡ encoded (after_reading (decoded d) y)
+  step-stored y u score k c =
       let s = decoded d in
-      let k = direct s h.passes y z in
       rw (h.period, h.index, count-is, w)
-      (step-written s h.passes (length-decoded d) (residual_of s y) u score (ap (λ (v : Update). v.level) q ∙ k.level) (ap (λ (v : Update). v.trend) q ∙ k.trend) (ap (λ (v : Update). v.season) q ∙ k.season)
+      (step-written s h.passes (length-decoded d) (residual_of s y) u score k.level k.trend k.season
       ∙ ap (λ (n : Score). encoded (corrected s (residual_of s y) n)) c)
 
-  pub missing-stored : (u : Update) → u ≡ update_missing (ties_to_even (decoded d).model) (numbers_of (decoded d)) → missing_code (decoded d) ≡ 0 → advanced_on e x.period x.index x.numbers.count u.level u.trend ≡ encoded (after_missing (decoded d))
+  pub missing-stored : (u : Update) → u ≡ advance (terms_of (decoded d)) → advanced_on e x.period x.index x.numbers.count u.level u.trend ≡ encoded (after_missing (decoded d))
   unfolding advance
-  missing-stored u q z =
+  missing-stored u q =
       let s = decoded d in
-      rw (h.period, h.index, count-is, q ∙ update-missing-is s h.passes z, w) (missing-written s h.passes (length-decoded d))
+      rw (h.period, h.index, count-is, q, w) (missing-written s h.passes (length-decoded d))
 
 -- ---- the state of the bytes of an accepted slice
 pub state-value : (d : List ℕ) → in_place_code d ≡ 0 → state_value d ≡ decoded d
@@ -250,44 +265,33 @@ rewrite-length d z r =
         let o' : length d - open_offset d ≤ 25 = rw e at o in
         omega arith
 
--- ---- a call by its rejection: that of the slice, that of the state, or none
-module _ (d : List ℕ) (x : Checked) (f : Found d x) where
-  pub holds : x.code ≡ 0 → Held d x
-  holds z = f.held (sym f.code ∙ z)
+-- ---- the room that a rewritten slice needs, by the numbers that the call goes by
+pub room-told : (d : List ℕ) (x : Checked) → Held d x → unless (leb (size_of x.period) (length d)) short_buffer ≡ room_code d
+unfolding decoded
+room-told d x h = rw h.period
 
-  -- a call that reads alone
-  pub not-read : (code : ℕ) → (x.code ≡ 0 → ⊥) → x.code ≡ (in_place_code d then code)
-  not-read code n = f.code ∙ sym (then-first (in_place_code d) code (λ z. n (f.code ∙ z)))
+pub room_in : (d : List ℕ) (x : Checked) → Held d x → Room (scored_in d) d x.period x.index
+room_in d x h = rw (h.period, h.index) h.room
 
-  pub is_read : (code : ℕ) → x.code ≡ 0 → (n : ℕ) → n ≡ code → n ≡ (in_place_code d then code)
-  is_read code z n e = rw (sym f.code ∙ z) e
+pub rewritable : (d : List ℕ) → in_place_code d ≡ 0 → room_code d ≡ 0 → rewrite_code d ≡ 0
+rewritable d z w = rw (z, w)
 
-  pub room_in : x.code ≡ 0 → Room (scored_in d) d x.period x.index
-  room_in z = let h = holds z in rw (h.period, h.index) h.room
+-- ---- a call by its rejection: that of the slice, of its room, of the state, or none
+module _ (code : State → ℕ) (d : List ℕ) where
+  pub by-slice : rejection code d ≡ (in_place_code d then room_code d then code (decoded d))
+  by-slice = then-assoc (in_place_code d) (room_code d) (code (decoded d))
 
-  -- the rejection of a slice that is to be rewritten
-  pub rewrite-is : (n : ℕ) → n ≡ (x.code then unless (leb (size_of x.period) (length d)) short_buffer) → n ≡ rewrite_code d
-  unfolding decoded
-  rewrite-is n e = e ∙ go (eqb x.code 0) refl
-    where
-      go : (t : Bool) → eqb x.code 0 ≡ t → (x.code then unless (leb (size_of x.period) (length d)) short_buffer) ≡ rewrite_code d
-      go true z = rw ((holds (eqb-true x.code 0 z)).period, f.code)
-      go false z = rw z (f.code ∙ sym (then-first (in_place_code d) (room_code d) (λ y. eqb-false x.code 0 z (f.code ∙ y))))
+  pub by-room : in_place_code d ≡ 0 → rejection code d ≡ (room_code d then code (decoded d))
+  by-room z = rw z
 
-module _ (d : List ℕ) (n : ℕ) (e : n ≡ rewrite_code d) where
-  pub unopened : (code : State → ℕ) → (n ≡ 0 → ⊥) → n ≡ rejection code d
-  unopened code h = e ∙ sym (then-first (rewrite_code d) (code (decoded d)) (λ z. h (e ∙ z)))
+  pub by-state : in_place_code d ≡ 0 → room_code d ≡ 0 → rejection code d ≡ (code (decoded d) then 0)
+  by-state z w = rw (z, w) (sym (then-none (code (decoded d))))
 
-  pub opened : (code : State → ℕ) → n ≡ 0 → (k : ℕ) → k ≡ code (decoded d) → k ≡ rejection code d
-  opened code z k q = rw (sym e ∙ z) q
+  pub rejected : {A : Type 0} (n k : ℕ) (v : A) {r : Result A Rejection} {e : Rejection} → rejection code d ≡ (n then k) → Err e ≡ outcome n → IsErrAnd r (λ y. y ≡ e) → r ≡ gives (rejection code d) v
+  rejected n k v p q h = rw p (check-ends n k v q h)
 
-  -- what the slice has that is to be rewritten
-  pub rewrite-facts : n ≡ 0 → (in_place_code d ≡ 0) × (room_code d ≡ 0)
-  rewrite-facts z = then-zero (in_place_code d) (room_code d) (sym e ∙ z)
+  pub kept : (next : State → State) (n k : ℕ) {e : Rejection} → rejection code d ≡ (n then k) → Err e ≡ outcome n → d ≡ bytes_after code next d
+  kept next n k p q = rw p (check-keeps-then n k (encoded (next (decoded d))) d q)
 
-module _ (code : State → ℕ) (next : State → State) (value : State → ℤ) (d : List ℕ) (old : ℤ) where
-  pub rejected : (n : ℕ) → n ≡ rejection code d → (n ≡ 0 → ⊥) → (d ≡ bytes_after code next d) × (old ≡ number_after code value d old)
-  rejected n e h = rw (← e, ne_eqb n 0 h) (refl, refl)
-
-  pub accepted-call : 0 ≡ rejection code d → (encoded (next (decoded d)) ≡ bytes_after code next d) × (value (decoded d) ≡ number_after code value d old)
-  accepted-call e = rw (← e) (refl, refl)
+  pub accepted-call : in_place_code d ≡ 0 → room_code d ≡ 0 → code (decoded d) ≡ 0 → rejection code d ≡ 0
+  accepted-call z w o = rw (z, w, o)

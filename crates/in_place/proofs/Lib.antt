@@ -1,3 +1,4 @@
+pub mod Codes
 pub mod InPlaceLaws
 pub mod InPlaceSteps
 pub mod InPlaceSwitch

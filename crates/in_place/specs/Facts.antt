@@ -9,7 +9,6 @@ use Rattle.state.specs.declared.Score.{Score}
 use Rattle.ets.specs.declared.Update.{Update}
 use Rattle.layout.specs.Layout.{level_at, score_at, season_at, position_at, scored_in, season_in}
 use Rattle.snapshot.specs.Snapshots.{decoded}
-use Rattle.slices.specs.Slices.{in_place_code}
 use Rattle.snapshot.specs.Facts.{Room}
 use Rattle.slices.specs.declared.Checked.{Checked}
 use Rattle.saving.specs.Encoding.{level_bytes, score_bytes, season_bytes, position_bytes, encoded}
@@ -28,10 +27,6 @@ pub record Held (d : List ℕ) (x : Checked) : Type 0 where
   pub passes : check (decoded d) ≡ 0
   pub whole : scored_in d ≡ true → encoded (decoded d) ≡ d
   pub room : Room (scored_in d) d (decoded d).period (decoded d).index
-
-pub record Found (d : List ℕ) (x : Checked) : Type 0 where
-  pub code : x.code ≡ in_place_code d
-  pub held : in_place_code d ≡ 0 → Held d x
 
 -- what is written: the position moves on, and before it level and trend; of a reading the season value and the score too
 abbrev pub moved_on : List ℕ → ℕ → ℕ → ℕ → List ℕ

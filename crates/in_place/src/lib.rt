@@ -1,14 +1,14 @@
 // The calls on a lent slice that holds one snapshot: document 01, "Commands".
-// Each returns the rejection's number or 0; a rejected call leaves the slice and the lent number as found.
+// A rejected call leaves the slice as found.
 // The snapshot is checked once. A step reads the numbers that it needs and writes those that it moves: no state is copied.
 // An old snapshot, without command 15, is first written as a new one, once.
 #![tactic(auto)]
 
 pub mod promises;
 
-ghost use Rattle.std.specs.Prelude.{◌≡◌, true, leb, ◌+◌, ◌<◌};
+ghost use Rattle.std.specs.Prelude.{◌≡◌, true, leb, pos, ◌+◌, ◌<◌};
 ghost use Rattle.state.specs.Fixed.{max_count};
-ghost use Rattle.state.specs.Rejections.{unless, ◌then◌, short_buffer};
+ghost use Rattle.state.specs.Rejections.{gives, outcome, unless, short_buffer};
 ghost use Rattle.layout.specs.Layout.{size_of, scored_in};
 ghost use Rattle.snapshot.specs.Snapshots.{decoded};
 ghost use Rattle.snapshot.specs.Facts.{Room};
@@ -24,15 +24,15 @@ use saving::rewriting::{
     rewrite_level, rewrite_position, rewrite_score, rewrite_season, rewrite_snapshot,
 };
 use slices::{score_value, season_value, slice_numbers, state_value};
-use state::{Answer, SHORT_BUFFER, Score, first, unless};
+use state::{Rejection, Score, unless};
 use turns::next_index;
 use updates::{update, update_missing, update_score};
 
-// The rejection of a slice that is to be rewritten: its own, then 12 where there is no room for the form that is saved.
-fn rewrite_code(code: u8, m: u8, length: usize) -> u8
-    ensures { result ≡ (code then unless (leb (size_of m) length) short_buffer) }
+// A slice that is to be rewritten: 12 where there is no room for the form that is saved.
+fn check_room(m: u8, length: usize) -> Result<(), Rejection>
+    ensures { result ≡ outcome (unless (leb (size_of m) length) short_buffer) }
 {
-    first(code, unless(size_of(m) <= length, SHORT_BUFFER))
+    unless(size_of(m) <= length, Rejection::ShortBuffer)
 }
 
 // The slice holds the snapshot as it is saved: an old one gets its command 15.
@@ -82,65 +82,45 @@ fn store(d: &mut [u8], m: u8, p: u8, count: u64, u: Update, score: Score)
     advance(d, m, p, count, u.level, u.trend);
 }
 
-// A reading: an accepted step rewrites the snapshot and stores the residual.
-pub fn step(snapshot: &mut [u8], reading: i32, residual: &mut i64) -> u8
-    ensures code { result ≡ in_place_step_code snapshot.old reading }
+// A reading: an accepted step rewrites the snapshot and gives the residual.
+pub fn step(snapshot: &mut [u8], reading: i32) -> Result<i64, Rejection>
+    ensures answer { result ≡ gives (in_place_step_code snapshot.old reading) (in_place_residual snapshot.old reading (pos 0)) }
     ensures bytes { snapshot.new ≡ in_place_step_bytes snapshot.old reading }
-    ensures number { residual.new ≡ in_place_residual snapshot.old reading residual.old }
 {
-    let x = slice_numbers(snapshot);
-    let code = rewrite_code(x.code, x.period, snapshot.len());
-    if code != 0 {
-        return code;
-    }
+    let x = slice_numbers(snapshot)?;
+    check_room(x.period, snapshot.len())?;
     let n = x.numbers;
-    let u = update(x.even, n, reading);
-    let rejection = u.code;
-    if rejection != 0 {
-        return rejection;
-    }
-    let e = u.residual;
-    *residual = e;
-    let score = update_score(x.even, n.count, score_value(snapshot), e);
+    let u = update(x.even, n, reading)?;
+    let score = update_score(x.even, n.count, score_value(snapshot), u.residual);
     upgrade(snapshot, x.scored);
     store(snapshot, x.period, x.index, n.count, u, score);
-    0
+    Ok(u.residual)
 }
 
 // A missing reading: an accepted one rewrites the snapshot.
-pub fn missing(snapshot: &mut [u8]) -> u8
-    ensures code { result ≡ in_place_missing_code snapshot.old }
+pub fn missing(snapshot: &mut [u8]) -> Result<(), Rejection>
+    ensures answer { result ≡ outcome (in_place_missing_code snapshot.old) }
     ensures bytes { snapshot.new ≡ in_place_missing_bytes snapshot.old }
 {
-    let x = slice_numbers(snapshot);
-    let code = rewrite_code(x.code, x.period, snapshot.len());
-    if code != 0 {
-        return code;
-    }
+    let x = slice_numbers(snapshot)?;
+    check_room(x.period, snapshot.len())?;
     let n = x.numbers;
-    let u = update_missing(x.even, n);
-    let rejection = u.code;
-    if rejection != 0 {
-        return rejection;
-    }
+    let u = update_missing(x.even, n)?;
     upgrade(snapshot, x.scored);
     advance(snapshot, x.period, x.index, n.count, u.level, u.trend);
-    0
+    Ok(())
 }
 
 // A switch to ties to even: an accepted one sets bit 6 of the model byte, and of a snapshot with command 15 no other byte changes.
-pub fn switch_to_even(snapshot: &mut [u8]) -> u8
-    ensures code { result ≡ in_place_switch_code snapshot.old }
+pub fn switch_to_even(snapshot: &mut [u8]) -> Result<(), Rejection>
+    ensures answer { result ≡ outcome (in_place_switch_code snapshot.old) }
     ensures bytes { snapshot.new ≡ in_place_switch_bytes snapshot.old }
 {
-    let x = slice_numbers(snapshot);
-    let code = rewrite_code(x.code, x.period, snapshot.len());
-    if code != 0 {
-        return code;
-    }
+    let x = slice_numbers(snapshot)?;
+    check_room(x.period, snapshot.len())?;
     upgrade(snapshot, x.scored);
     snapshot[MODEL_BYTE_AT] = to_even(snapshot[MODEL_BYTE_AT]);
-    0
+    Ok(())
 }
 
 // The season value of a horizon, 0 without season.
@@ -152,29 +132,15 @@ fn season_ahead(s: &[u8], m: u8, p: u8, h: u32) -> i64
         return 0;
     }
     let ahead = (p as usize) + (h as usize) - 1;
-    match season_value(s, (ahead % (m as usize)) as u8) {
-        Answer::Accepted(v) => v,
-        Answer::Rejected(_) => 0,
-    }
+    season_value(s, (ahead % (m as usize)) as u8).unwrap_or(0)
 }
 
 // The forecast for one horizon.
-pub fn forecast(snapshot: &[u8], horizon: u32, value: &mut i64) -> u8
-    ensures code { result ≡ in_place_forecast_code snapshot.now horizon }
-    ensures number { value.new ≡ in_place_forecast snapshot.now horizon value.old }
+pub fn forecast(snapshot: &[u8], horizon: u32) -> Result<i64, Rejection>
+    ensures { result ≡ gives (in_place_forecast_code snapshot.now horizon) (in_place_forecast snapshot.now horizon (pos 0)) }
 {
-    let x = slice_numbers(snapshot);
-    let code = x.code;
-    if code != 0 {
-        return code;
-    }
+    let x = slice_numbers(snapshot)?;
     let n = x.numbers;
     let season = season_ahead(snapshot, x.period, x.index, horizon);
-    match forecast_from(x.even, n.level, n.phi, n.trend, season, horizon) {
-        Answer::Rejected(k) => k,
-        Answer::Accepted(v) => {
-            *value = v;
-            0
-        }
-    }
+    forecast_from(x.even, n.level, n.phi, n.trend, season, horizon)
 }

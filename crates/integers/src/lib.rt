@@ -9,20 +9,12 @@ ghost use Rattle.std.proofs.Common.{to_z, of_z};
 pub fn of_i64(z: i64) -> u64
     ensures { result ≡ of_z w64 z }
 {
-    if z < 0 {
-        u64::MAX - ((-1 - z) as u64)
-    } else {
-        z as u64
-    }
+    z.cast_unsigned()
 }
 
 // The number that 64 bits stand for. The compiler makes no instruction of it.
 pub fn to_i64(n: u64) -> i64
     ensures { result ≡ to_z w64 n }
 {
-    if n < 0x8000_0000_0000_0000 {
-        n as i64
-    } else {
-        -1 - ((u64::MAX - n) as i64)
-    }
+    n.cast_signed()
 }

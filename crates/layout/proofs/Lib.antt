@@ -1,2 +1,4 @@
 pub mod AnswerLaws
+pub mod Opcodes
+pub mod Rows
 pub mod Sizes

@@ -9,17 +9,10 @@ ghost use Rattle.layout.specs.Layout.{score_size, season_at, size_of};
 
 use models::MAX_PERIOD;
 pub use table::{
-    Entry, POSITION_LENGTH, SCORE_LENGTH, SEASON_LENGTH, command_length, entry_of, is_command,
-    only_in_snapshot, opener, opens,
+    Entry, Opcode, POSITION_LENGTH, SCORE_LENGTH, SEASON_LENGTH, command_length, entry_of,
+    is_command, only_in_snapshot, opener, opens,
 };
 use table::{LEVEL_LENGTH, MODEL_LENGTH};
-
-// The bytes that a state's snapshot needs, or those of a command.
-#[derive(Clone, Copy)]
-pub enum Length {
-    Bytes(usize),
-    Rejected(u8),
-}
 
 pub const MODEL_AT: usize = 0;
 

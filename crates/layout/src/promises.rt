@@ -1,7 +1,7 @@
 // What holds of the calls together: each function's promise is the theorem that its contract names.
 ghost use Rattle.layout.specs.Promises.{Lengths, Sizes};
 
-// Each case of the enum Length is told by its number and its value.
+// Each case of a length is told by its number and its value.
 pub fn lengths()
     ensures { Lengths }
 {}

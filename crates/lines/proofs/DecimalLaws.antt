@@ -6,7 +6,8 @@ use mathlib.Core.List.{List, [], ◌∷◌, ◌++◌}
 use native.Mathlib.Nat.{pow-suc}
 use native.Mathlib.Omega.{arith}
 use borrow.Author.Tests.{ltb-true, ltb-false}
-use lib.Dec.{ltb, eqb-suc-zero}
+use lib.Dec.{ltb}
+use Rattle.state.proofs.Answers.{code-of}
 use Rattle.lines.specs.Lines.{digits, digit_count, decimal, signed_decimal, read_from, Decimals, Cases}
 use Rattle.lines.proofs.DigitLaws.{tenth, length-decimal}
 
@@ -64,5 +65,4 @@ unfolding signed_decimal decimal digits digit_count
 decimals = record { value = decimal-value; shortest = λ n h. rw (length-decimal n) (shortest 19 n h); least = refl }
 
 pub cases : Cases
-cases zero n = record { number = refl; value = λ z. refl }
-cases (suc code) n = record { number = rw (eqb-suc-zero code); value = λ z. absurd (omega arith) }
+cases code n l = record { number = code-of code n l; value = λ z. rw z }

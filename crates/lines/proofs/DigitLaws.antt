@@ -3,7 +3,7 @@ use Prim.Native.Nat.{ℕ, zero, suc, ◌+◌, ◌*◌, ◌/◌, ◌%◌, ◌^◌
 use mathlib.Core.Path.{◌≡◌, refl, subst}
 use mathlib.Core.Bool.{Bool, true, false, cond}
 use mathlib.Core.List.{List, [], ◌∷◌, ◌++◌}
-use native.Mathlib.Nat.{le_refl, add-zero, add-suc, suc-add, pow-suc, div-lt_iff_lt-mul}
+use native.Mathlib.Nat.{le_refl, add-zero, add-suc, suc-add, pow-suc, one-le-pow, div-lt_iff_lt-mul}
 use native.Mathlib.Omega.{arith}
 use borrow.Author.Tests.{lt-ltb, le-ltb, ltb-true}
 use lib.Dec.{T, lit<, ltb}
@@ -11,6 +11,7 @@ use lib.IntN.{ℤ, pos, negsuc, nat_abs}
 use lib.Signed.{mag, lt_z}
 use lib.ListN.{length, length-append, set, drop, get_or}
 use lib.Seq.{sets, set_comm, drop-cons}
+use Rattle.std.specs.Prelude.{Option, None, Some, IfNone, IfSome, unwrap_or}
 use Rattle.lines.specs.Lines.{digits, digit_count, decimal, signed_decimal, hex_digit, hexadecimal, Put}
 
 pub length_digits : (k n : ℕ) → length (digits k n) ≡ k
@@ -28,11 +29,11 @@ length-hexadecimal [] = refl
 length-hexadecimal (b ∷ s) = let e = length-hexadecimal s in omega arith
 
 -- ---- a number by its sign, as a test leaves it
-pub negative : (z : ℤ) → lt_z z (pos 0) ≡ true → z ≡ negsuc (mag z)
+negative : (z : ℤ) → lt_z z (pos 0) ≡ true → z ≡ negsuc (mag z)
 negative (pos n) e = absurd (omega (arith, ltb-true n 0 e))
 negative (negsuc n) e = refl
 
-pub nonnegative : (z : ℤ) → lt_z z (pos 0) ≡ false → z ≡ pos (mag z)
+nonnegative : (z : ℤ) → lt_z z (pos 0) ≡ false → z ≡ pos (mag z)
 nonnegative (pos n) e = refl
 nonnegative (negsuc n) e = absurd (subst T e tt)
 
@@ -44,24 +45,27 @@ pub signed-nonnegative : (z : ℤ) → lt_z z (pos 0) ≡ false → signed_decim
 unfolding signed_decimal
 signed-nonnegative z e = rw (nonnegative z e)
 
--- ---- how many digits: one turn of the count, and its end
-pub count-more : (j n : ℕ) → 10 ≤ n → digit_count (suc j) n ≡ suc (digit_count j (n / 10))
-unfolding digit_count
-count-more j n h = rw (le-ltb n 10 h)
-
-pub count-one : (j n : ℕ) → n < 10 → digit_count j n ≡ 1
-unfolding digit_count
-count-one zero n h = refl
-count-one (suc j) n h = rw (lt-ltb n 10 h)
-
+-- ---- how many digits
 pub tenth : (j n : ℕ) → n < 10 ^ suc j → n / 10 < 10 ^ j
 tenth j n h = (div-lt_iff_lt-mul (lit< tt)).1 (rw (pow-suc 10 j) at h)
 
--- a number of two digits or more
-pub two : (j n : ℕ) → n < 10 ^ j → 10 ≤ n → 2 ≤ j
-two zero n h t = absurd (omega arith)
-two (suc zero) n h t = absurd (omega arith)
-two (suc (suc j)) n h t = omega arith
+count-is : (j k n : ℕ) → k ≤ j → 10 ^ k ≤ n → n < 10 ^ suc k → digit_count j n ≡ suc k
+unfolding digit_count
+count-is zero k n l p h = omega arith
+count-is (suc j) zero n l p h = rw (lt-ltb n 10 h)
+count-is (suc j) (suc k) n l p h =
+    let q : 10 ^ suc k ≡ 10 ^ k * 10 = pow-suc 10 k in
+    let e = count-is j k (n / 10) (omega arith) (omega arith) (tenth (suc k) n h) in
+    rw (le-ltb n 10 (omega (arith, one-le-pow k 10 (lit< tt))), e)
+
+-- what the logarithm tells
+pub count-log : (o : Option ℕ) (n : ℕ) → IfNone o (n ≡ 0) → IfSome o (λ k. 10 ^ k ≤ n) → IfSome o (λ k. n < 10 * 10 ^ k) → IfSome o (λ k. k < 20)
+    → (unwrap_or o 0 + 1 ≡ digit_count 19 n) × (unwrap_or o 0 + 1 ≤ 20)
+unfolding digit_count
+count-log None n z p q b = (rw z, omega arith)
+count-log (Some k) n z p q b =
+    let h : n < 10 ^ suc k = rw (pow-suc 10 k) (omega arith) in
+    (omega (arith, count-is 19 k n (omega arith) p h), omega arith)
 
 pub count_most : (j n : ℕ) → digit_count j n ≤ suc j
 unfolding digit_count

@@ -1,14 +1,13 @@
 -- Document 01, "The program's lines": the bytes of each line.
-use Rattle.std.specs.Prelude.{ℕ, zero, suc, ◌+◌, ◌-◌, ◌*◌, ◌/◌, ◌%◌, ◌^◌, ◌≤◌, ◌<◌, ◌≡◌, cond, List, [], ◌∷◌, ◌++◌, eqb, ltb, leb, ℤ, pos, negsuc, length, take}
+use Rattle.std.specs.Prelude.{ℕ, zero, suc, ◌+◌, ◌-◌, ◌*◌, ◌/◌, ◌%◌, ◌^◌, ◌≤◌, ◌<◌, ◌≡◌, cond, List, [], ◌∷◌, ◌++◌, eqb, ltb, leb, ℤ, pos, negsuc, length, take, Result, Ok, Err, Option, Some, None}
 use Rattle.std.proofs.lemmas.List.Edits.{sets}
-use Rattle.state.specs.Rejections.{unless, short_buffer}
-use Rattle.replies.specs.Replies.{no_letter, fields_of}
+use Rattle.state.specs.Rejections.{unless, short_buffer, gives, code_in, IsCode}
+use Rattle.replies.specs.Replies.{fields_of}
 use Rattle.replies.specs.declared.Reply.{Reply}
-use Rattle.lines.specs.declared.Line.{Line}
-use Rattle.lines.specs.declared.Line.TheVariants as LineOf
 use Rattle.replies.specs.declared.Number.{Number}
-use Rattle.replies.specs.declared.Number.TheVariants.{Nothing, Unsigned, Signed, Hexadecimal}
+use Rattle.replies.specs.declared.Number.TheVariants.{Unsigned, Signed, Hexadecimal}
 use Rattle.replies.specs.declared.Fields.{Fields}
+use Rattle.state.specs.declared.Rejection.{Rejection}
 
 -- ---- numbers
 
@@ -50,35 +49,41 @@ newline = 10
 
 -- a number of a line with the blank before it; in hexadecimal stand the first n of the bytes that were saved
 abbrev pub number_bytes : List ℕ → Number → List ℕ
-number_bytes saved Nothing = []
 number_bytes saved (Unsigned n) = blank ∷ decimal n
 number_bytes saved (Signed z) = blank ∷ signed_decimal z
 number_bytes saved (Hexadecimal n) = blank ∷ hexadecimal (take n saved)
 
--- a letter, up to three numbers, and the end of the line; nothing where there is no letter
+abbrev pub field_bytes : List ℕ → Option Number → List ℕ
+field_bytes saved None = []
+field_bytes saved (Some x) = number_bytes saved x
+
+-- a letter, up to three numbers, and the end of the line
 unfoldable pub fields_bytes : List ℕ → Fields → List ℕ
 fields_bytes saved f =
-    cond (eqb f.letter no_letter) []
-    (f.letter ∷ (number_bytes saved f.first ++ (number_bytes saved f.second ++ (number_bytes saved f.third ++ (newline ∷ [])))))
+    f.letter ∷ (field_bytes saved f.first ++ (field_bytes saved f.second ++ (field_bytes saved f.third ++ (newline ∷ []))))
+
+-- the line of some fields, none without them
+abbrev pub bytes_of : List ℕ → Option Fields → List ℕ
+bytes_of saved None = []
+bytes_of saved (Some f) = fields_bytes saved f
 
 -- the line of a reply, with the bytes that were saved
 unfoldable pub line_of : Reply → List ℕ → List ℕ
-line_of r saved = fields_bytes saved (fields_of r)
+line_of r saved = bytes_of saved (fields_of r)
 
 -- ---- writing a line
 
 -- the answer of the call: the bytes of the line, or the rejection
-abbrev pub line : ℕ → ℕ → Line
-line code n = cond (eqb code 0) (LineOf.Bytes n) (LineOf.Rejected code)
+abbrev pub line : ℕ → ℕ → Result ℕ Rejection
+line code n = gives code n
 
 -- the paper's number of each case, 0 for a line that was written, and its bytes
-abbrev pub line_code : Line → ℕ
-line_code (LineOf.Bytes n) = 0
-line_code (LineOf.Rejected code) = code
+abbrev pub line_code : Result ℕ Rejection → ℕ
+line_code a = code_in a
 
-abbrev pub line_length : Line → ℕ
-line_length (LineOf.Bytes n) = n
-line_length (LineOf.Rejected code) = 0
+abbrev pub line_length : Result ℕ Rejection → ℕ
+line_length (Ok n) = n
+line_length (Err r) = 0
 
 -- each case is told by its number and its value
 pub record LineCases (code n : ℕ) : Type 0 where
@@ -90,7 +95,7 @@ abbrev pub room_code : Reply → List ℕ → ℕ → ℕ
 room_code r saved room = unless (leb (length (line_of r saved)) room) short_buffer
 
 -- the call: the line at the start of a buffer, or the rejection, which leaves the buffer as it came
-unfoldable pub write_line : Reply → List ℕ → ℕ → Line
+unfoldable pub write_line : Reply → List ℕ → ℕ → Result ℕ Rejection
 write_line r saved room = line (room_code r saved room) (length (line_of r saved))
 
 unfoldable pub line_bytes : Reply → List ℕ → List ℕ → List ℕ
@@ -115,6 +120,6 @@ pub record Decimals : Type 0 where
   pub least : signed_decimal (negsuc 9223372036854775807)
       ≡ 45 ∷ 57 ∷ 50 ∷ 50 ∷ 51 ∷ 51 ∷ 55 ∷ 50 ∷ 48 ∷ 51 ∷ 54 ∷ 56 ∷ 53 ∷ 52 ∷ 55 ∷ 55 ∷ 53 ∷ 56 ∷ 48 ∷ 56 ∷ []
 
--- each case of the enum Line is told by its number and its value
+-- each case of a line's answer is told by its number and its value
 abbrev pub Cases : Type 0
-Cases = (code n : ℕ) → LineCases code n
+Cases = (code n : ℕ) → IsCode code → LineCases code n

@@ -7,13 +7,7 @@ ghost use Rattle.lines.specs.Lines.{digits, digit_count, decimal, signed_decimal
 pub fn digit_count(n: u64) -> usize
     ensures { (result ≡ digit_count 19 n) × (result ≤ 20) }
 {
-    let mut k = 1;
-    let mut rest = n;
-    while 10 <= rest {
-        rest /= 10;
-        k += 1;
-    }
-    k
+    n.checked_ilog10().unwrap_or(0) as usize + 1
 }
 
 // Writes the k low decimal digits of n, the highest first.
@@ -22,10 +16,8 @@ fn put_digits(d: &mut [u8], at: usize, k: usize, n: u64)
     ensures { d.new ≡ sets d.old at (digits k n) }
 {
     let mut rest = n;
-    let mut i = k;
-    while 0 < i {
-        i -= 1;
-        d[at + i] = (48 + rest % 10) as u8;
+    for i in (0..k).rev() {
+        d[at + i] = b'0' + (rest % 10) as u8;
         rest /= 10;
     }
 }
@@ -51,10 +43,7 @@ pub fn put_decimal(d: &mut [u8], at: usize, n: u64) -> usize
 pub fn magnitude(z: i64) -> u64
     ensures { result ≡ nat_abs z }
 {
-    if z < 0 {
-        return ((-1 - z) as u64) + 1;
-    }
-    z as u64
+    z.unsigned_abs()
 }
 
 pub fn put_signed(d: &mut [u8], at: usize, z: i64) -> usize
@@ -69,6 +58,7 @@ pub fn put_signed(d: &mut [u8], at: usize, z: i64) -> usize
     put_decimal(d, at, n)
 }
 
+// By hand: char::from_digit gives a char, of which the byte would have to be taken again.
 fn hex_digit(n: u8) -> u8
     requires { n < 16 }
     ensures { result ≡ hex_digit n }
@@ -89,10 +79,8 @@ pub fn put_hexadecimal(d: &mut [u8], at: usize, s: &[u8]) -> usize
     requires { at + 2 * length s.now ≤ length d.old }
     ensures { Put d.old at (hexadecimal s.now) result d.new }
 {
-    let mut i = 0;
-    while i < s.len() {
-        put_hex_byte(d, at + 2 * i, s[i]);
-        i += 1;
+    for (i, byte) in s.iter().enumerate() {
+        put_hex_byte(d, at + 2 * i, *byte);
     }
-    at + 2 * i
+    at + 2 * s.len()
 }

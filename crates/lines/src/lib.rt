@@ -11,25 +11,20 @@ ghost use Rattle.lines.specs.Lines.{write_line, line_bytes};
 pub use digits::magnitude;
 use fields::{fields_length, put_fields};
 use replies::{Reply, fields_of};
-use state::SHORT_BUFFER;
+use state::{Rejection, unless};
 
-// The bytes of a line.
-#[derive(Clone, Copy)]
-pub enum Line {
-    Bytes(usize),
-    Rejected(u8),
-}
-
-// Writes a reply's line at the start of a buffer; a rejected call writes nothing. Of the bytes saved a save's line shows as many as its reply says.
-pub fn write_line(reply: Reply, saved: &[u8], d: &mut [u8]) -> Line
+// Writes a reply's line at the start of a buffer, and answers its length; a rejected call writes nothing. Of the bytes saved a save's line shows as many as its reply says.
+pub fn write_line(reply: Reply, saved: &[u8], d: &mut [u8]) -> Result<usize, Rejection>
     ensures answer { result ≡ write_line reply saved.now (length d.old) }
     ensures bytes { d.new ≡ line_bytes reply saved.now d.old }
 {
-    let f = fields_of(reply);
-    let n = fields_length(f, saved);
-    if d.len() < n {
-        return Line::Rejected(SHORT_BUFFER);
+    match fields_of(reply) {
+        None => Ok(0),
+        Some(f) => {
+            let n = fields_length(f, saved);
+            unless(n <= d.len(), Rejection::ShortBuffer)?;
+            put_fields(d, f, saved);
+            Ok(n)
+        }
     }
-    put_fields(d, f, saved);
-    Line::Bytes(n)
 }

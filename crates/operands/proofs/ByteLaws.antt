@@ -1,34 +1,65 @@
 -- Laws of `from_bytes` at every width, and of operands that the bytes end before or inside.
-use Prim.Native.Nat.{ℕ, zero, suc, ◌+◌, ◌*◌, ◌-◌, ◌≤◌, ◌<◌}
+use Prim.Native.Nat.{ℕ, zero, suc, ◌+◌, ◌*◌, ◌-◌, ◌^◌, ◌≤◌, ◌<◌}
 use mathlib.Core.Path.{◌≡◌, refl, sym, ap, ◌∙◌}
-use mathlib.Core.List.{List, [], ◌∷◌}
-use native.Mathlib.Nat.{le_refl}
-use native.Mathlib.Numerals.{add-one}
+use mathlib.Core.List.{List, [], ◌∷◌, ◌++◌}
+use native.Mathlib.Nat.{le_refl, sub_self, pow-suc, pow-le-pow_right, lt_of_lt_of_le}
 use native.Mathlib.Omega.{arith}
-use lib.ListN.{length, length-drop, take, drop, drop_of_length-le, get_or}
-use lib.Seq.{drop-cons, take_all, take-nil, take-take, drop-drop}
+use Rattle.std.proofs.Common.{append-nil, append_assoc, length-append, lit<}
+use Rattle.std.proofs.lemmas.List.{drop_at, get_or_at}
+use lib.ListN.{length, take, drop, drop_of_length-le, get_or}
+use lib.Seq.{take-nil, take-take, drop-drop}
 use Rattle.layout.specs.Bytes.{from_bytes, unsigned_at}
 
--- one byte more, from the top down: what a turn of `read_whole` adds
-pub from_bytes-more : (s : List ℕ) (at k i : ℕ) → i < k → at + k ≤ length s
-    → from_bytes (take i (drop (at + (k - i)) s)) * 256 + get_or s (at + (k - (i + 1))) 0 ≡ from_bytes (take (i + 1) (drop (at + (k - (i + 1))) s))
+-- the last bytes are read, and those in front are left
+pub record IsRead (bytes left : List ℕ) (number : ℕ) : Type 0 where
+  pub split : left ++ drop (length left) bytes ≡ bytes
+  pub value : number ≡ from_bytes (drop (length left) bytes)
+  pub small : number < 256 ^ (length bytes - length left)
+
+pub none-read : (bytes : List ℕ) → IsRead bytes bytes 0
 unfolding from_bytes
-from_bytes-more s at k i p q =
-    let e : at + (k - i) ≡ suc (at + (k - (i + 1))) = omega arith in
-    let g : at + (k - (i + 1)) < length s = omega arith in
-    rw (e, drop-cons s (at + (k - (i + 1))) 0 g, add-one i)
+none-read bytes =
+    let e = drop_of_length-le {A = ℕ} bytes (le_refl (length bytes)) in
+    record { split = rw (e, append-nil); value = rw e; small = rw sub_self (lit< tt) }
+
+-- one byte more, from the top down
+module _ (bytes left rest : List ℕ) (byte number : ℕ) (read : IsRead bytes left number) (last : left ≡ rest ++ (byte ∷ [])) where
+  front : rest ++ (byte ∷ drop (length left) bytes) ≡ bytes
+  front = sym (append_assoc rest (byte ∷ []) (drop (length left) bytes)) ∙ ap (λ (l : List ℕ). l ++ drop (length left) bytes) (sym last) ∙ read.split
+
+  behind : drop (length rest) bytes ≡ byte ∷ drop (length left) bytes
+  behind = ap (drop (length rest)) (sym front) ∙ drop_at rest (byte ∷ drop (length left) bytes) (length rest) refl
+
+  shorter : length left ≡ length rest + 1
+  shorter = ap length last ∙ length-append rest (byte ∷ [])
+
+  pub byte-is : get_or bytes (length rest) 0 ≡ byte
+  byte-is = ap (λ (l : List ℕ). get_or l (length rest) 0) (sym front) ∙ get_or_at rest byte (drop (length left) bytes) 0 (length rest) refl
+
+  within : length left ≤ length bytes
+  within = omega (arith, ap length read.split, length-append left (drop (length left) bytes))
+
+  -- up to 8 bytes: at most 7 are read before this one
+  pub below : length bytes ≤ 8 → number < 256 ^ 7
+  below h = let e : length bytes - length left ≤ 7 = omega (arith, shorter) in lt_of_lt_of_le read.small (pow-le-pow_right (lit< tt) e)
+
+  pub read-more : byte < 256 → IsRead bytes rest (number * 256 + byte)
+  unfolding from_bytes
+  read-more h =
+      let e : length bytes - length rest ≡ suc (length bytes - length left) = omega (arith, shorter, within) in
+      record {
+        split = ap (λ (l : List ℕ). rest ++ l) behind ∙ front;
+        value = rw (behind, read.value);
+        small = rw (e, pow-suc 256 (length bytes - length left)) (omega (arith, read.small));
+      }
+
+pub below-power : (number j k : ℕ) → number < 256 ^ j → j ≤ k → number < 256 ^ k
+below-power number j k h l = lt_of_lt_of_le h (pow-le-pow_right (lit< tt) l)
 
 -- an operand that begins after the last byte
 pub none-there : (s : List ℕ) (at k : ℕ) → length s ≤ at → unsigned_at s at k ≡ 0
 unfolding from_bytes
 none-there s at k h = rw (drop_of_length-le {A = ℕ} s h, take-nil {A = ℕ} k)
-
--- an operand that the bytes end inside is the number of the bytes that are there
-pub cut-there : (s : List ℕ) (at k : ℕ) → length s ≤ at + k → unsigned_at s at k ≡ unsigned_at s at (length s - at)
-cut-there s at k h =
-    let l : length (drop at s) ≤ k = rw (length-drop at s) (omega arith) in
-    let m : length (drop at s) ≤ length s - at = rw (length-drop at s) (le_refl (length s - at)) in
-    ap from_bytes (take_all k (drop at s) l ∙ sym (take_all (length s - at) (drop at s) m))
 
 -- the bytes of an operand alone
 pub operand-alone : (s : List ℕ) (at k : ℕ) → unsigned_at (take k (drop at s)) 0 k ≡ unsigned_at s at k

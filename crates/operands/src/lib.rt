@@ -2,70 +2,45 @@
 // Every offset has an answer: what stands after the end counts as 0.
 #![tactic(auto)]
 
-ghost use Rattle.std.specs.Prelude.{◌≡◌, ◌+◌, ◌^◌, ◌≤◌, ◌<◌, length, get_or};
+ghost use Rattle.std.specs.Prelude.{◌≡◌, ◌^◌, ◌≤◌, ◌<◌, length, get_or};
 ghost use Rattle.std.specs.Int.{w32};
 ghost use Rattle.std.proofs.Common.{to_z};
-ghost use Rattle.layout.specs.Bytes.{unsigned_at, signed_at};
+ghost use Rattle.layout.specs.Bytes.{from_bytes, unsigned_at, signed_at};
 
 use integers::to_i64;
 
-fn wide(b: u8) -> u64
-    ensures value { result ≡ b }
-    ensures small { result < 256 }
+// The number of up to 8 bytes.
+fn number_of(bytes: &[u8]) -> u64
+    requires { length bytes.now ≤ 8 }
+    ensures value { result ≡ from_bytes bytes.now }
+    ensures small { result < 256 ^ length bytes.now }
 {
-    b as u64
-}
-
-// The operand of k bytes, all of which are there.
-fn read_whole(s: &[u8], at: usize, k: usize) -> u64
-    requires { (k ≤ 8) × (at + k ≤ length s.now) }
-    ensures value { result ≡ unsigned_at s.now at k }
-    ensures small { result < 256 ^ k }
-{
-    let mut v: u64 = 0;
-    let mut i = 0;
-    while i < k {
-        i += 1;
-        let b = wide(s[at + (k - i)]);
-        v = v * 256 + b;
+    let mut number = 0;
+    for byte in bytes.iter().rev() {
+        number = number * 256 + *byte as u64;
     }
-    v
+    number
 }
 
-// The operand of k bytes, before or inside which the bytes end.
-fn read_cut(s: &[u8], at: usize, k: usize) -> u64
-    requires { (k ≤ 8) × (length s.now < at + k) }
-    ensures value { result ≡ unsigned_at s.now at k }
-    ensures small { result < 256 ^ k }
-{
-    if s.len() <= at {
-        return 0;
-    }
-    read_whole(s, at, s.len() - at)
-}
-
-// The tests are made so that no sum wraps.
+// The operand of k bytes, or the number of those that are there.
 fn read_le(s: &[u8], at: usize, k: usize) -> u64
     requires { k ≤ 8 }
     ensures value { result ≡ unsigned_at s.now at k }
     ensures small { result < 256 ^ k }
 {
-    if s.len() < k {
-        return read_cut(s, at, k);
+    let Some(rest) = s.get(at..) else {
+        return 0;
+    };
+    match rest.get(..k) {
+        Some(bytes) => number_of(bytes),
+        None => number_of(rest),
     }
-    if s.len() - k < at {
-        return read_cut(s, at, k);
-    }
-    read_whole(s, at, k)
 }
 
 pub fn byte_at(s: &[u8], at: usize) -> u8
     ensures { result ≡ get_or s.now at 0 }
 {
-    if s.len() <= at {
-        return 0;
-    }
-    s[at]
+    s.get(at).copied().unwrap_or(0)
 }
 
 pub fn read_u16(s: &[u8], at: usize) -> u16
@@ -102,9 +77,5 @@ pub fn read_i64(s: &[u8], at: usize) -> i64
 fn to_i32(n: u32) -> i32
     ensures { result ≡ to_z w32 n }
 {
-    if n < 0x8000_0000 {
-        n as i32
-    } else {
-        -1 - ((u32::MAX - n) as i32)
-    }
+    n.cast_signed()
 }

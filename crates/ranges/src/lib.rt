@@ -2,12 +2,13 @@
 #![tactic(auto)]
 
 ghost use Rattle.std.specs.Prelude.{◌≡◌};
+ghost use Rattle.state.specs.Rejections.{outcome};
 ghost use Rattle.state.specs.Fixed.{is_reading, is_residual, is_sentinel, in_range, is_zero};
 ghost use Rattle.state.specs.Scores.{score_of, sum_ok, score_ok};
 ghost use Rattle.state.specs.States.{parameters_code, trend_ok, cell_ok, index_ok, count_ok};
 
 use models::{has_trend, parameters_ok, pick, usual_gains};
-use state::{BAD_PARAMETER, MAX_COUNT, MAX_VALUE, Score, UNUSUAL_GAINS, first, unless};
+use state::{MAX_COUNT, MAX_VALUE, Rejection, Score, unless};
 
 pub fn is_reading(y: i32) -> bool
     ensures { result ≡ is_reading y }
@@ -42,14 +43,20 @@ fn is_zero(v: i64) -> bool
 }
 
 // The parameters: what the model allows, and the usual region, in which 10 opens a state and 18 does not.
-pub fn parameters_code(outside: bool, model: u8, a: u32, b: u32, g: u32, f: u32) -> u8
-    ensures { result ≡ parameters_code outside model a b g f }
+pub fn check_parameters(
+    outside: bool,
+    model: u8,
+    a: u32,
+    b: u32,
+    g: u32,
+    f: u32,
+) -> Result<(), Rejection>
+    ensures { result ≡ outcome (parameters_code outside model a b g f) }
 {
     let usual = usual_gains(a, b, g);
     let allowed = parameters_ok(model, a, b, g, f) & !(outside & usual);
-    let bad = unless(allowed, BAD_PARAMETER);
-    let unusual = unless(outside | usual, UNUSUAL_GAINS);
-    first(bad, unusual)
+    unless(allowed, Rejection::BadParameter)?;
+    unless(outside | usual, Rejection::UnusualGains)
 }
 
 pub fn trend_ok(model: u8, b: i64) -> bool

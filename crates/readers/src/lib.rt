@@ -5,7 +5,8 @@ ghost use Rattle.std.specs.Prelude.{◌≤◌, length};
 
 use std::io::Read;
 
-// Reads until the buffer is full, the input ends or a read fails, and answers how many bytes it put at the start.
+// Reads until the buffer is full, the input ends or a read fails, and answers how many bytes it put at the start. Pieces of any size come, so the loop counts bytes and not
+// turns; the library's read_exact does not tell how many there were.
 pub fn read_full<R: Read>(from: &mut R, buffer: &mut [u8]) -> usize
     ensures { result ≤ length buffer.new }
 {

@@ -1,5 +1,5 @@
 -- The forecasts and the coefficients of a state that passes its checks: each is a double, and the arrays hold the squares of the definition.
-use Prim.Native.Nat.{ℕ, zero, suc, ◌+◌, ◌-◌, ◌≤◌, ◌<◌}
+use Prim.Native.Nat.{ℕ, zero, suc, ◌-◌, ◌≤◌, ◌<◌}
 use mathlib.Core.Path.{◌≡◌, refl, ap, ◌∙◌}
 use mathlib.Core.Bool.{true}
 use mathlib.Core.List.{List, ◌++◌}
@@ -13,13 +13,16 @@ use Rattle.integers.specs.Bounds.{Within}
 use Rattle.integers.proofs.Bounds.{within-parts, within-add}
 use Rattle.integers.proofs.Snoc.{snoc-at}
 use Rattle.models.specs.Models.{ties_to_even}
+use Rattle.std.proofs.Common.{Err}
 use Rattle.state.specs.Valid.{Valid}
+use Rattle.state.specs.declared.Rejection.{Rejection}
 use Rattle.state.specs.declared.State.{State}
+use Rattle.state.proofs.Answers.{refuses}
 use Rattle.state.proofs.Tests.{then-zero, unless-then, unless-zero}
-use Rattle.forecasts.specs.Forecasts.{season_at, forecast_of, forecast_list, forecast_code_to, forecasts_code_to, forecasts_code, forecast_cells_to, forecast_cells}
+use Rattle.forecasts.specs.Forecasts.{season_at, forecast_of, forecast_list, forecast_code_to, forecasts_code_to, forecasts_code, forecasts_to, forecasts, forecast_cells_to, forecast_cells}
 use Rattle.forecasts.proofs.ForecastLaws.{Ready, line-bound, season-ahead, ahead_small, list_length}
 use Rattle.weights.specs.Weights.{coefficient, errors_code}
-use Rattle.weights.specs.Coefficients.{coefficient_list, coefficient_cells}
+use Rattle.weights.specs.Coefficients.{coefficient_list, coefficients, coefficient_cells}
 use Rattle.weights.proofs.Rejecting.{errors-ready}
 use Rattle.weights.proofs.CoefficientLaws.{coefficients-length, coefficient-most}
 use Rattle.relative_errors.specs.Relative.{one_bits, squared, squared_mean, squared_coefficient, input_code}
@@ -85,6 +88,15 @@ taken s h bits room z =
 accepted : (s : State) (h room : ℕ) → Ready 512 s h → h ≤ room → forecasts_code s h room ≡ 0
 unfolding forecasts_code_to forecast_code_to
 accepted s h room o l = rw (o.valid, le-leb 1 h o.least, le-leb h 512 o.most, le-leb h room l)
+
+-- no such call is refused
+pub forecasts-taken : (s : State) (h room : ℕ) {e : Rejection} → Ready 512 s h → h ≤ room → Err e ≡ forecasts s h room → ⊥
+unfolding forecasts_to
+forecasts-taken s h room o l q = refuses q (accepted s h room o l)
+
+pub coefficients-taken : (s : State) (h room : ℕ) {e : Rejection} → Ready 512 s h → h ≤ room → Err e ≡ coefficients s h room → ⊥
+unfolding coefficients
+coefficients-taken s h room o l q = refuses q (accepted s h room o l)
 
 pub forecasts-filled : (s : State) (h : ℕ) (cells : List ℤ) {ms : List ℤ} → Ready 512 s h → h ≤ length cells → ms ≡ forecast_cells s h cells → ms ≡ forecast_list s h ++ drop h cells
 unfolding forecast_cells_to

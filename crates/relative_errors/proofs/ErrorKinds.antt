@@ -9,11 +9,10 @@ use lib.IntN.{ℤ}
 use lib.ListN.{length}
 use Rattle.models.specs.Models.{trend_of, season_of, rounding_of, to_up, to_even, to_additive, has_relative_errors, errors_are}
 use Rattle.state.specs.Fixed.{is_sentinel}
-use Rattle.state.specs.Rejections.{unless, ◌then◌, accepting, outcome, answer, short_buffer}
+use Rattle.state.specs.Rejections.{unless, ◌then◌, accepting, outcome, answer, short_buffer, Answer}
 use Rattle.state.specs.Switching.{switched, switch_to_even}
 use Rattle.state.specs.States.{parameters_code, check}
 use Rattle.state.specs.declared.State.{State}
-use Rattle.state.specs.declared.Answer.{Answer}
 use Rattle.ets.specs.Steps.{damped_trend, season_by, terms_of, seasonal_by, new_seasonal, residual, residual_of, after_reading, after_missing, step_code_by, step_code, missing_code, step, missing}
 use Rattle.ets.specs.Batches.{Run, take_code_by, take_code, after_take_by, after_take, halted, preceded, run_by, run, batch_code, batch_run, batch, batch_levels}
 use Rattle.ets.specs.declared.Terms.{Terms}

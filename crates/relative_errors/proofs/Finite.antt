@@ -15,11 +15,12 @@ use Rattle.integers.proofs.Snoc.{snoc-at}
 use Rattle.integers.proofs.Tests.{both}
 use Rattle.state.proofs.Tests.{then-zero, unless-zero}
 use Rattle.state.specs.declared.State.{State}
-use Rattle.relative_errors.specs.declared.RelativeVariance.TheVariants as VarianceOf
 use Rattle.relative_errors.specs.Relative.{squared_mean, squared_coefficient, sum_to, sums_finite, next_theta, thetas, thetas_finite, variance_of, all_finite, input_code, relative_code, relative_answer, relative_variance}
 use Rattle.relative_errors.specs.Promises.{AcceptedIsFinite}
 use Rattle.relative_errors.proofs.Floats.{no_nan}
 use Rattle.relative_errors.proofs.Recursion.{thetas-length, sum-append}
+use Rattle.std.specs.Prelude.{Ok}
+use Rattle.state.specs.Rejections.{rejects}
 
 truly : (b : Bool) → b ≡ true → T b
 truly b e = subst T (sym e) tt
@@ -70,10 +71,10 @@ module _ (μ² c² : ℕ → Float) (σ² : Float) where
       go (inr less) before =
           sum-append c² (thetas μ² c² σ² h) (θ-at h ∷ []) k (omega (arith, thetas-length μ² c² σ² h)) j m ∙ before (le_of_suc-le-suc less) m
 
-by_code : (n : ℕ) (v x : Float) → relative_answer n v ≡ VarianceOf.Accepted x → (n ≡ 0) × (x ≡ v)
+by_code : (n : ℕ) (v x : Float) → relative_answer n v ≡ Ok x → (n ≡ 0) × (x ≡ v)
 by_code n v x e = let f = go (eqb n 0) e in (eqb-true n 0 f.0, f.1)
   where
-    go : (b : Bool) → cond b (VarianceOf.Accepted v) (VarianceOf.Rejected n) ≡ VarianceOf.Accepted x → (b ≡ true) × (x ≡ v)
+    go : (b : Bool) → cond b (Ok v) (rejects n) ≡ Ok x → (b ≡ true) × (x ≡ v)
     go true g = (refl, cc)
     go false g = let z : ◌≡◌ {A = ℕ} 0 1 = cc in absurd (omega arith)
 

@@ -7,7 +7,7 @@ use native.Mathlib.Numerals.{add-one}
 use native.Mathlib.Omega.{arith}
 use lib.IntN.{pos}
 use lib.ListN.{length, get_or, take, drop, set, length-append, get_or-append}
-use lib.Seq.{take_at, take-suc, length-take-le, drop-cons, append_snoc, set_at}
+use lib.Seq.{take_at}
 use lib.Ieee.{Float, nan, binary64, add, mul}
 use lib.Ieee.Scale.{finite}
 use Rattle.integers.proofs.Snoc.{snoc-more}
@@ -20,10 +20,6 @@ abbrev both : Bool → Bool → Bool
 both a b = a && b
 
 -- ---- lists
-
--- one more of the first ones is copied
-pub copy_more : (own cells : List Float) (i : ℕ) → i < length own → i < length cells → set (take i own ++ drop i cells) i (get_or own i nan) ≡ take (suc i) own ++ drop (suc i) cells
-copy_more own cells i h k = rw (drop-cons cells i nan k, set_at (take i own) (get_or cells i nan) (drop (suc i) cells) (get_or own i nan) i (length-take-le i own (omega arith)), take-suc own i nan h, append_snoc)
 
 pub squares-length : (ns : List ℕ) (n : ℕ) → length (square_list ns n) ≡ n
 unfolding square_list
@@ -104,9 +100,6 @@ module _ (μ² c² : ℕ → Float) (σ² : Float) (own cells : List Float) (i :
 
 -- ---- what stands in `own` once the θ are written
 module _ (θs own rest : List Float) (h : ℕ) (long : length θs ≡ h) (owns : own ≡ θs ++ rest) where
-  pub own-long : h ≤ length own
-  own-long = rw owns (simp length-append (omega (arith, long)))
-
   pub own_first : take h own ≡ θs
   own_first = rw owns (take_at θs rest h long)
 

@@ -1,20 +1,16 @@
 -- Document 02, W-205: what the kind of the errors changes, and what it does not.
 use Rattle.std.specs.Prelude.{ℕ, ◌+◌, ◌≡◌, true, false, List, ℤ, Float}
 use Rattle.models.specs.Models.{to_additive, has_relative_errors}
-use Rattle.state.specs.Rejections.{out_of_place}
+use Rattle.state.specs.Rejections.{out_of_place, rejects}
 use Rattle.state.specs.States.{with_model, check}
 use Rattle.state.specs.Switching.{switch_to_even}
 use Rattle.state.specs.declared.State.{State}
-use Rattle.state.specs.declared.Outcome.TheVariants as OutcomeOf
 use Rattle.ets.specs.Steps.{step, missing}
 use Rattle.ets.specs.Batches.{batch, batch_levels}
 use Rattle.forecasts.specs.Forecasts.{forecast_to, forecasts_to, forecast_cells_to}
 use Rattle.weights.specs.Weights.{weight, variance}
 use Rattle.weights.specs.Groups.{weight_groups, weight_group_cells}
-use Rattle.weights.specs.declared.Weight.TheVariants as WeightOf
-use Rattle.weights.specs.declared.Variance.TheVariants as ClassOneOf
 use Rattle.relative_errors.specs.Relative.{relative_variance, relative_cells}
-use Rattle.relative_errors.specs.declared.RelativeVariance.TheVariants as VarianceOf
 
 -- bit 3 of the model byte is set, and all else is kept
 abbrev pub with_relative_errors : State → State
@@ -36,14 +32,14 @@ pub record SameNumbers (s : State) : Type 0 where
 
 -- Class 1 is refusal 3 for multiplicative errors, whatever the operands, and leaves the cells
 pub record ClassOne (s : State) (h : ℕ) : Type 0 where
-  pub weights : weight s h ≡ WeightOf.Rejected out_of_place
-  pub variances : (sigma2 : ℕ) → variance s h sigma2 ≡ ClassOneOf.Rejected out_of_place
-  pub groups : (room : ℕ) → weight_groups s h room ≡ OutcomeOf.Rejected out_of_place
+  pub weights : weight s h ≡ rejects out_of_place
+  pub variances : (sigma2 : ℕ) → variance s h sigma2 ≡ rejects out_of_place
+  pub groups : (room : ℕ) → weight_groups s h room ≡ rejects out_of_place
   pub cells : (cells : List ℕ) → weight_group_cells s h cells ≡ cells
 
 -- and Class 2 for additive ones
 pub record ClassTwo (s : State) (h bits : ℕ) : Type 0 where
-  pub variances : (room : ℕ) → relative_variance s h bits room ≡ VarianceOf.Rejected out_of_place
+  pub variances : (room : ℕ) → relative_variance s h bits room ≡ rejects out_of_place
   pub cells : (cells : List Float) → relative_cells s h bits cells ≡ cells
 
 pub record KindLaws : Type 0 where

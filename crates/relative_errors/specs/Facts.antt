@@ -1,10 +1,10 @@
 -- What the private functions' contracts say of the arrays that they work on: μ as whole 65,536ths, and c × c, each at its place less 1.
-use Rattle.std.specs.Prelude.{ℕ, zero, suc, ◌-◌, ◌≤◌, ◌<◌, List, [], ◌∷◌, ◌++◌, ℤ, pos, nat_abs, get_or, drop, Float}
+use Rattle.std.specs.Prelude.{ℕ, zero, suc, ◌-◌, ◌≤◌, ◌<◌, List, [], ◌∷◌, ◌++◌, ℤ, pos, nat_abs, get_or, drop, Float, Result}
 use Rattle.std.specs.Float.{nan}
 use Rattle.state.specs.Rejections.{unless, accepting, not_finite}
 use Rattle.state.specs.declared.State.{State}
 use Rattle.relative_errors.specs.Relative.{squared, squared_mean, squared_coefficient, thetas, variance_of, all_finite, relative_answer}
-use Rattle.relative_errors.specs.declared.RelativeVariance.{RelativeVariance}
+use Rattle.state.specs.declared.Rejection.{Rejection}
 
 -- μ × μ of k
 abbrev pub means_in : List ℤ → ℕ → Float
@@ -30,7 +30,7 @@ SmallMeans ms n = (i : ℕ) → i < n → nat_abs (get_or ms i (pos 0)) ≤ 9007
 unfoldable pub computed_code : State → ℕ → Float → ℕ
 computed_code s h σ² = unless (all_finite (squared_mean s) (squared_coefficient s) σ² h) not_finite
 
-unfoldable pub computed_variance : State → ℕ → Float → RelativeVariance
+unfoldable pub computed_variance : State → ℕ → Float → Result Float Rejection
 computed_variance s h σ² = relative_answer (computed_code s h σ²) (variance_of (squared_mean s) (squared_coefficient s) σ² h)
 
 unfoldable pub computed_cells : State → ℕ → Float → List Float → List Float

@@ -1,12 +1,11 @@
 -- Computed: the variance of T3's state with multiplicative errors, the order of its refusals, and what 19 tests.
-use Rattle.std.specs.Prelude.{ℕ, ◌+◌, ◌≡◌, true, false, [], ◌∷◌, pos, Float}
+use Rattle.std.specs.Prelude.{ℕ, ◌+◌, ◌≡◌, true, false, [], ◌∷◌, pos, Float, Ok}
 use Rattle.std.specs.Float.{binary64}
 use Rattle.std.specs.Float.Ieee.{of_bits}
 use Rattle.state.specs.Scores.{no_score}
 use Rattle.state.specs.States.{state_of}
 use Rattle.state.specs.declared.State.{State}
 use Rattle.relative_errors.specs.Relative.{one, one_bits, thetas_finite, all_finite, input_code, relative_variance, relative_cells}
-use Rattle.relative_errors.specs.declared.RelativeVariance.TheVariants as VarianceOf
 
 -- T3's state, with bit 3: μ of 1, 2, 3 is 1, 2, 3 and c of 1, 2 is 0.75, 1
 abbrev pub straight : ℕ → State
@@ -28,7 +27,7 @@ always x n = x
 
 pub record Pins : Type 0 where
   -- θ of 1, 2, 3 is 1, 4.140625, 9.832275390625; the answer 1.25 × 9.832275390625 − 9 = 3.29034423828125
-  pub answer : relative_variance (straight 9) 3 quarter_bits 3 ≡ VarianceOf.Accepted (of_bits binary64 0x400a_52a0_0000_0000)
+  pub answer : relative_variance (straight 9) 3 quarter_bits 3 ≡ Ok (of_bits binary64 0x400a_52a0_0000_0000)
   pub cells : relative_cells (straight 9) 3 quarter_bits (seven ∷ seven ∷ seven ∷ seven ∷ [])
       ≡ of_bits binary64 0x3ff0_0000_0000_0000 ∷ of_bits binary64 0x4010_9000_0000_0000 ∷ of_bits binary64 0x4023_aa20_0000_0000 ∷ seven ∷ []
   -- σ² of 1 is taken, and the next double is 18

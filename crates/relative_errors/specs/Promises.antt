@@ -1,19 +1,19 @@
 -- What holds of the variance of multiplicative errors (document 02, W-205): the cases of its answer, its doubles, and its divisions.
-use Rattle.std.specs.Prelude.{ℕ, ◌≤◌, ◌<◌, ◌≡◌, Bool, true, false, not, T, ℤ, pos, negsuc, nat_abs, Float}
+use Rattle.std.specs.Prelude.{ℕ, ◌≤◌, ◌<◌, ◌≡◌, Bool, true, false, not, T, ℤ, pos, negsuc, nat_abs, Float, Ok}
 use Rattle.std.specs.Float.{binary64}
 use Rattle.std.specs.Float.Ieee.{mul, of_int, of_bits, is_nan}
 use Rattle.std.specs.Float.Ieee.Exact.{HasValue}
 use Rattle.std.specs.Float.Ieee.Scale.{finite}
+use Rattle.state.specs.Rejections.{IsCode}
 use Rattle.state.specs.States.{check}
 use Rattle.state.specs.declared.State.{State}
 use Rattle.forecasts.specs.Forecasts.{max_horizon, forecast_of}
 use Rattle.weights.specs.Weights.{coefficient}
-use Rattle.relative_errors.specs.declared.RelativeVariance.TheVariants as VarianceOf
 use Rattle.relative_errors.specs.Relative.{fixed_scale, from_fixed, squared_mean, squared_coefficient, theta_in, sum_to, thetas, variance_of, relative_answer, answer_code, answer_value, relative_variance}
 
 -- ---- each case of the answer is told by its number and its value
 pub record AnswerCases (n : ℕ) (v : Float) : Type 0 where
-  pub code : answer_code (relative_answer n v) ≡ n
+  pub code : IsCode n → answer_code (relative_answer n v) ≡ n
   pub value : n ≡ 0 → (old : Float) → answer_value (relative_answer n v) old ≡ v
 
 abbrev pub Cases : Type 0
@@ -30,7 +30,7 @@ pub record Finite (s : State) (h : ℕ) (σ² x : Float) : Type 0 where
 abbrev pub AcceptedIsFinite : Type 0
 AcceptedIsFinite =
     (s : State) (h bits room : ℕ) (x : Float)
-    → relative_variance s h bits room ≡ VarianceOf.Accepted x → Finite s h (of_bits binary64 bits) x
+    → relative_variance s h bits room ≡ Ok x → Finite s h (of_bits binary64 bits) x
 
 -- ---- the division by 65536 loses nothing
 abbrev pub is_negative : ℤ → Bool

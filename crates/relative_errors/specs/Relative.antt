@@ -1,14 +1,13 @@
 -- Document 02, W-205: the variance of a forecast whose errors are multiplicative (document 000, Class 2), in doubles, each operation rounded once in the order written.
-use Rattle.std.specs.Prelude.{ℕ, zero, suc, ◌-◌, Bool, true, ◌&&◌, List, [], ◌∷◌, ◌++◌, leb, ℤ, pos, length, get_or, drop, Float}
+use Rattle.std.specs.Prelude.{ℕ, zero, suc, ◌-◌, Bool, true, ◌&&◌, List, [], ◌∷◌, ◌++◌, leb, ℤ, pos, length, get_or, drop, Float, Result, Ok, Err}
 use Rattle.std.specs.Float.{nan, binary64}
 use Rattle.std.specs.Float.Ieee.{add, sub, mul, div, of_bits, of_int}
 use Rattle.std.specs.Float.Ieee.Scale.{finite}
-use Rattle.state.specs.Rejections.{unless, ◌then◌, accepting, short_buffer, bad_sigma2, not_finite}
+use Rattle.state.specs.Rejections.{unless, ◌then◌, accepting, short_buffer, bad_sigma2, not_finite, rejects, number}
 use Rattle.state.specs.declared.State.{State}
 use Rattle.forecasts.specs.Forecasts.{forecast_of}
 use Rattle.weights.specs.Weights.{coefficient, errors_code}
-use Rattle.relative_errors.specs.declared.RelativeVariance.{RelativeVariance}
-use Rattle.relative_errors.specs.declared.RelativeVariance.TheVariants as VarianceOf
+use Rattle.state.specs.declared.Rejection.{Rejection}
 
 -- 0.0, 1.0 and 65536.0 by their bits
 abbrev pub nought : Float
@@ -97,19 +96,19 @@ relative_code s h bits room =
     then unless (all_finite (squared_mean s) (squared_coefficient s) (of_bits binary64 bits) h) not_finite
 
 -- each case of the answer from the paper's number, 0 for "accepted", and its value
-abbrev pub relative_answer : ℕ → Float → RelativeVariance
-relative_answer n v = accepting n (VarianceOf.Accepted v) VarianceOf.Rejected
+abbrev pub relative_answer : ℕ → Float → Result Float Rejection
+relative_answer n v = accepting n (Ok v) rejects
 
 -- and back: the number of each case, and the value of an accepted one
-abbrev pub answer_code : RelativeVariance → ℕ
-answer_code (VarianceOf.Accepted v) = 0
-answer_code (VarianceOf.Rejected n) = n
+abbrev pub answer_code : Result Float Rejection → ℕ
+answer_code (Ok v) = 0
+answer_code (Err r) = number r
 
-abbrev pub answer_value : RelativeVariance → Float → Float
-answer_value (VarianceOf.Accepted v) old = v
-answer_value (VarianceOf.Rejected n) old = old
+abbrev pub answer_value : Result Float Rejection → Float → Float
+answer_value (Ok v) old = v
+answer_value (Err r) old = old
 
-unfoldable pub relative_variance : State → ℕ → ℕ → ℕ → RelativeVariance
+unfoldable pub relative_variance : State → ℕ → ℕ → ℕ → Result Float Rejection
 relative_variance s h bits room =
     relative_answer (relative_code s h bits room)
     (variance_of (squared_mean s) (squared_coefficient s) (of_bits binary64 bits) h)

@@ -3,9 +3,3 @@
 #![tactic(auto)]
 
 pub mod promises;
-
-#[derive(Clone, Copy)]
-pub enum RelativeVariance {
-    Accepted(f64),
-    Rejected(u8),
-}

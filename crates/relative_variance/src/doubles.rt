@@ -27,10 +27,8 @@ pub fn squares(c: &[u64; 512], h: usize, squared: &mut [f64; 512])
     requires { (h ≤ 512) × (h ≤ length squared.old) × Small c.now h }
     ensures { squared.new ≡ square_list c.now h ++ drop h squared.old }
 {
-    let mut i = 0;
-    while i < h {
+    for i in 0..h {
         squared[i] = square(c[i] as i64);
-        i += 1;
     }
 }
 
@@ -39,12 +37,9 @@ fn sum(c2: &[f64; 512], own: &[f64; 512], i: usize) -> f64
     requires { i < 512 }
     ensures { result ≡ sum_to (squares_in c2.now) own.now (suc i) i }
 {
-    let mut s: f64 = 0.0;
-    let mut j: usize = 0;
-    while j < i {
-        let k = i - 1 - j;
-        s = s + c2[j] * own[k];
-        j += 1;
+    let mut s = 0.0;
+    for j in 0..i {
+        s += c2[j] * own[i - 1 - j];
     }
     s
 }
@@ -67,12 +62,10 @@ pub fn fill(mu: &[i64; 512], c2: &[f64; 512], h: usize, sigma2: f64, own: &mut [
     let first = square(mu[0]);
     let mut sound = is_finite(first);
     own[0] = first;
-    let mut i: usize = 1;
-    while i < h {
+    for i in 1..h {
         let t = theta(mu, c2, own, i, sigma2);
         own[i] = t;
         sound = sound & is_finite(t);
-        i += 1;
     }
     sound
 }
@@ -90,9 +83,5 @@ pub fn copy(own: &[f64; 512], h: usize, thetas: &mut [f64])
     requires { (h ≤ 512) × (h ≤ length thetas.old) × (h ≤ length own.now) }
     ensures { thetas.new ≡ take h own.now ++ drop h thetas.old }
 {
-    let mut i = 0;
-    while i < h {
-        thetas[i] = own[i];
-        i += 1;
-    }
+    thetas[..h].copy_from_slice(&own[..h]);
 }

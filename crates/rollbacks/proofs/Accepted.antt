@@ -11,21 +11,14 @@ use lib.Ieee.{Float, binary64, to_bits}
 use lib.ListN.{length, take, drop, get_or, take-append-drop}
 use lib.Seq.{get_or-drop}
 use native.Mathlib.Nat.{add-zero}
-use Rattle.state.specs.Rejections.{by_outcome, by_answer}
+use Rattle.state.specs.Rejections.{by_outcome, by_answer, Outcome, Answer}
 use Rattle.state.specs.declared.State.{State}
 use Rattle.state.specs.Switching.{switch_to_even}
-use Rattle.state.specs.declared.Outcome.{Outcome}
-use Rattle.state.specs.declared.Outcome.TheVariants as OutcomeOf
-use Rattle.state.specs.declared.Answer.{Answer}
-use Rattle.state.specs.declared.Answer.TheVariants as AnswerOf
 use Rattle.ets.specs.Steps.{step, missing}
 use Rattle.forecasts.specs.Forecasts.{max_horizon, forecast}
 use Rattle.weights.specs.Weights.{variance}
 use Rattle.relative_errors.specs.Relative.{relative_variance}
 use Rattle.weights.specs.declared.Variance.{Variance}
-use Rattle.weights.specs.declared.Variance.TheVariants as VarianceOf
-use Rattle.relative_errors.specs.declared.RelativeVariance.{RelativeVariance}
-use Rattle.relative_errors.specs.declared.RelativeVariance.TheVariants as RelativeOf
 use Rattle.layout.specs.Bytes.{AreBytes}
 use Rattle.layout.specs.CommandTable.{command_size}
 use Rattle.layout.specs.Layout.{outside_in}
@@ -47,6 +40,8 @@ use Rattle.commands.specs.Commands.{accepted, rejected, finish, open_snapshot, t
 use Rattle.commands.specs.declared.Session.{Session}
 use Rattle.commands.specs.declared.Performed.{Performed}
 use Rattle.rollbacks.proofs.OwnBytes.{again, part_same, decode-same}
+use Rattle.std.specs.Prelude.{Result, Ok, Err}
+use Rattle.state.specs.declared.Rejection.{Rejection}
 
 -- ---- an accepted command's session stands right after it
 abbrev Ends : ℕ → Performed → Type 0
@@ -54,20 +49,20 @@ Ends to p = is_last p.reply ≡ false → p.session.at ≡ to
 
 module _ (x : Session) (to : ℕ) (t : State) where
   outcome-ends : (o : Outcome) (r : Reply) → Ends to (by_outcome o (accepted r to t) (λ c. rejected c x.at x))
-  outcome-ends OutcomeOf.Accepted r e = refl
-  outcome-ends (OutcomeOf.Rejected c) r e = absurd (true≢false e)
+  outcome-ends (Ok u) r e = refl
+  outcome-ends (Err c) r e = absurd (true≢false e)
 
   answer-ends : (o : Answer) (r : ℤ → Reply) → Ends to (by_answer o (λ v. accepted (r v) to t) (λ c. rejected c x.at x))
-  answer-ends (AnswerOf.Accepted v) r e = refl
-  answer-ends (AnswerOf.Rejected c) r e = absurd (true≢false e)
+  answer-ends (Ok v) r e = refl
+  answer-ends (Err c) r e = absurd (true≢false e)
 
-  variance-ends : (o : Variance) (r : ℕ → ℕ → Reply) → Ends to (by_variance o (λ h l. accepted (r h l) to t) (λ c. rejected c x.at x))
-  variance-ends (VarianceOf.Accepted h l) r e = refl
-  variance-ends (VarianceOf.Rejected c) r e = absurd (true≢false e)
+  variance-ends : (o : Result Variance Rejection) (r : ℕ → ℕ → Reply) → Ends to (by_variance o (λ h l. accepted (r h l) to t) (λ c. rejected c x.at x))
+  variance-ends (Ok v) r e = refl
+  variance-ends (Err c) r e = absurd (true≢false e)
 
-  relative-ends : (o : RelativeVariance) (r : Float → Reply) → Ends to (by_relative o (λ v. accepted (r v) to t) (λ c. rejected c x.at x))
-  relative-ends (RelativeOf.Accepted v) r e = refl
-  relative-ends (RelativeOf.Rejected c) r e = absurd (true≢false e)
+  relative-ends : (o : Result Float Rejection) (r : Float → Reply) → Ends to (by_relative o (λ v. accepted (r v) to t) (λ c. rejected c x.at x))
+  relative-ends (Ok v) r e = refl
+  relative-ends (Err c) r e = absurd (true≢false e)
 
 -- ---- of a group it is the whole group
 module _ (s : List ℕ) (x : Session) (open-accepted : is_last (open_snapshot s x).reply ≡ false) where
@@ -130,7 +125,7 @@ module _ (s t : List ℕ) (m : ℕ) (same : take m s ≡ take m t) (in-s : m ≤
     told (CommandOf.Forecast j) e = plain (CommandOf.Forecast j) (answer-ends x to x.state (forecast x.state j) (λ v. ReplyOf.Forecast j v)) refl e
     told (CommandOf.Variance j sigma2) e = plain (CommandOf.Variance j sigma2) (variance-ends x to x.state (variance x.state j sigma2) (λ v w. ReplyOf.Variance j v w)) refl e
     told CommandOf.Save e = plain CommandOf.Save (outcome-ends x to x.state (save x.state room) (ReplyOf.Saved (length (encoded x.state)))) refl e
-    told (CommandOf.Rejected code) e = absurd (true≢false e)
+    told (CommandOf.Rejected r) e = absurd (true≢false e)
     told CommandOf.SwitchToEven e = plain CommandOf.SwitchToEven (outcome-ends x to (switch_to_even x.state).state (switch_to_even x.state).outcome ReplyOf.Silent) refl e
     told (CommandOf.RelativeVariance j sigma2) e = plain (CommandOf.RelativeVariance j sigma2) (relative-ends x to x.state (relative_variance x.state j sigma2 max_horizon) (λ v. ReplyOf.RelativeVariance j (to_bits binary64 v))) refl e
     told (CommandOf.Store slot) e = plain (CommandOf.Store slot) (outcome-ends x to x.state (store x.state slot (length cs)) ReplyOf.Silent) refl e

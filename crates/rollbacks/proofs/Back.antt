@@ -7,7 +7,6 @@ use native.Mathlib.Omega.{arith}
 use lib.ListN.{length, length-append, take, drop}
 use lib.Seq.{length-take-le, take_at, drop_at}
 use Rattle.state.specs.declared.State.{State}
-use Rattle.state.specs.declared.Outcome.TheVariants as OutcomeOf
 use Rattle.checkpoints.specs.Checkpoints.{restore}
 use Rattle.layout.specs.Bytes.{AreBytes}
 use Rattle.decoding.specs.declared.Command.{Command}
@@ -23,6 +22,7 @@ use Rattle.rollbacks.specs.Rollbacks.{Standing, begins, answer_at, after, answer
 use Rattle.rollbacks.proofs.Later.{answers-later, same_line}
 use Rattle.rollbacks.proofs.Accepted.{next-same, perform-same}
 use Rattle.rollbacks.proofs.Kept.{Fit, begins-fit, leads-fit, gone-keeps, after_store, names-hold, after-restore, names-stay}
+use Rattle.std.specs.Prelude.{Ok}
 
 abbrev place : Standing → ℕ
 place x = x.session.at
@@ -84,7 +84,7 @@ module _ (s : List ℕ) (slot : ℕ) (bytes : AreBytes s) (r : KeptAndBack s slo
   names-between : r.there.checkpoints ≡ y.checkpoints
   names-between = gone-keeps s r.gone
 
-  holds-there : restore slot r.there.checkpoints ≡ record { outcome = OutcomeOf.Accepted; state = t }
+  holds-there : restore slot r.there.checkpoints ≡ record { outcome = Ok tt; state = t }
   holds-there = ap (restore slot) names-between ∙ names-hold s r.here slot fit r.keeps r.accepted
 
   brought : answer_at s r.there ≡ record { reply = ReplyOf.Silent; session = record { at = (next_command s r.there.session).next; active = true; state = t } }

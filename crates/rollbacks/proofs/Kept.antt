@@ -8,9 +8,9 @@ use borrow.Author.Tests.{eqb-true}
 use lib.Dec.{eqb, leb, eqb-suc-zero}
 use lib.ListN.{length, get_or}
 use Rattle.integers.proofs.Tests.{cond-elim}
-use Rattle.state.specs.Rejections.{outcome_code}
+use Rattle.state.specs.Rejections.{outcome_code, rejection_of, no_checkpoint}
+use Rattle.state.proofs.Answers.{positive}
 use Rattle.state.specs.declared.State.{State}
-use Rattle.state.specs.declared.Outcome.TheVariants as OutcomeOf
 use Rattle.layout.specs.Bytes.{AreBytes}
 use Rattle.layout.specs.CommandTable.{opens}
 use Rattle.snapshot.specs.declared.Opened.{Opened}
@@ -32,6 +32,7 @@ use Rattle.commands.proofs.CommandLaws.{performs, keeps}
 use Rattle.streams.proofs.StreamLaws.{start-sound, later-sound, active-is}
 use Rattle.streams.proofs.SessionLaws.{kept}
 use Rattle.rollbacks.specs.Rollbacks.{Standing, begins, command_at, answer_at, after, Leads, none, more, is_store, not_store}
+use Rattle.std.specs.Prelude.{Ok}
 
 -- ---- what stands passes its checks, and what the names hold
 pub record Fit (x : Standing) : Type 0 where
@@ -42,7 +43,7 @@ pub begins-fit : Fit begins
 begins-fit = record { sound = start-sound; holding = record { passes = λ slot z. absurd (empty slot z) } }
   where
     empty : (slot : ℕ) → restore_code slot no_checkpoints ≡ 0 → ⊥
-    empty slot z = let e = sym (ap (λ (g : Opened). outcome_code g.outcome) (nothing-at-first slot)) ∙ restored-code slot no_checkpoints ∙ z in omega arith
+    empty slot z = let e = sym (ap (λ (g : Opened). outcome_code g.outcome) (nothing-at-first slot)) ∙ restored-code slot no_checkpoints ∙ z in omega (arith, positive (rejection_of no_checkpoint))
 
 pub after-fit : (s : List ℕ) → AreBytes s → (x : Standing) → Fit x → Fit (after s x)
 after-fit s b x f =
@@ -64,7 +65,7 @@ only_store x cs CommandOf.Missing e = refl
 only_store x cs (CommandOf.Forecast h) e = refl
 only_store x cs (CommandOf.Variance h sigma2) e = refl
 only_store x cs CommandOf.Save e = refl
-only_store x cs (CommandOf.Rejected code) e = refl
+only_store x cs (CommandOf.Rejected r) e = refl
 only_store x cs CommandOf.SwitchToEven e = refl
 only_store x cs (CommandOf.RelativeVariance h sigma2) e = refl
 only_store x cs (CommandOf.Store slot) e = absurd (false≢true e)
@@ -123,13 +124,13 @@ module _ (s : List ℕ) (x : Standing) (slot : ℕ) (fit : Fit x) (q : command_a
   unfolding store_state store
   after_store = stores ∙ rw store-accepted
 
-  pub names-hold : restore slot (after s x).checkpoints ≡ record { outcome = OutcomeOf.Accepted; state = t }
+  pub names-hold : restore slot (after s x).checkpoints ≡ record { outcome = Ok tt; state = t }
   names-hold =
       rw (keeps s x.session (next_command s x.session) (CommandOf.Store slot) refl q x.checkpoints)
       (stores_back t slot x.checkpoints (fit.sound.passes (store-open s x.session slot q)).typed store-accepted).same
 
 -- ---- 51 where the name holds a state
-module _ (s : List ℕ) (z : Standing) (slot : ℕ) (t : State) (q : command_at s z ≡ CommandOf.Restore slot) (h : restore slot z.checkpoints ≡ record { outcome = OutcomeOf.Accepted; state = t }) where
+module _ (s : List ℕ) (z : Standing) (slot : ℕ) (t : State) (q : command_at s z ≡ CommandOf.Restore slot) (h : restore slot z.checkpoints ≡ record { outcome = Ok tt; state = t }) where
   pub after-restore : answer_at s z ≡ accepted ReplyOf.Silent (next_command s z.session).next t
   unfolding restore_state
   after-restore =

@@ -12,21 +12,14 @@ use lib.IntN.{ℤ}
 use lib.ListN.{length, length-drop, drop, get_or}
 use lib.Ieee.{Float, binary64, to_bits}
 use lib.Seq.{get_or-drop, drop-drop}
-use Rattle.state.specs.Rejections.{by_outcome, by_answer}
+use Rattle.state.specs.Rejections.{by_outcome, by_answer, rejection_of, Outcome, Answer}
 use Rattle.state.specs.Switching.{switch_to_even}
 use Rattle.state.specs.declared.State.{State}
-use Rattle.state.specs.declared.Outcome.{Outcome}
-use Rattle.state.specs.declared.Outcome.TheVariants as OutcomeOf
-use Rattle.state.specs.declared.Answer.{Answer}
-use Rattle.state.specs.declared.Answer.TheVariants as AnswerOf
 use Rattle.ets.specs.Steps.{step, missing}
 use Rattle.forecasts.specs.Forecasts.{max_horizon, forecast}
 use Rattle.weights.specs.Weights.{variance}
 use Rattle.relative_errors.specs.Relative.{relative_variance}
 use Rattle.weights.specs.declared.Variance.{Variance}
-use Rattle.weights.specs.declared.Variance.TheVariants as VarianceOf
-use Rattle.relative_errors.specs.declared.RelativeVariance.{RelativeVariance}
-use Rattle.relative_errors.specs.declared.RelativeVariance.TheVariants as RelativeOf
 use Rattle.layout.specs.CommandTable.{command_size}
 use Rattle.snapshot.specs.Snapshots.{open_code, open_offset, read}
 use Rattle.saving.specs.Encoding.{encoded}
@@ -47,6 +40,8 @@ use Rattle.commands.specs.declared.Session.{Session}
 use Rattle.commands.specs.declared.Performed.{Performed}
 use Rattle.streams.proofs.StreamLaws.{next-goes}
 use Rattle.rollbacks.specs.Rollbacks.{later_reply, later_session, later, all_later}
+use Rattle.std.specs.Prelude.{Result, Ok, Err}
+use Rattle.state.specs.declared.Rejection.{Rejection}
 
 -- ---- the command at an offset, by the bytes from there on
 abbrev moved : ℕ → Decoded → Decoded
@@ -77,12 +72,12 @@ module _ (s : List ℕ) (at : ℕ) where
   module _ (active : Bool) (model : ℕ) where
     abbrev found : ℕ → Bool → Bool → Decoded
     found k a b =
-        cond a (record { command = CommandOf.End; next = k }) (cond b (record { command = operands s at; next = k + command_size (get_or s at 0) }) (record { command = CommandOf.Rejected (command_code s at active model); next = k }))
+        cond a (record { command = CommandOf.End; next = k }) (cond b (record { command = operands s at; next = k + command_size (get_or s at 0) }) (record { command = CommandOf.Rejected (rejection_of (command_code s at active model)); next = k }))
 
     found_at : (a b : Bool) → found at a b ≡ moved at (found 0 a b)
     found_at true b = ap (λ (k : ℕ). record { command = CommandOf.End; next = k }) (sym (add-zero at))
     found_at false true = ap (λ (k : ℕ). record { command = operands s at; next = at + k }) (sym (zero-add (command_size (get_or s at 0))))
-    found_at false false = ap (λ (k : ℕ). record { command = CommandOf.Rejected (command_code s at active model); next = k }) (sym (add-zero at))
+    found_at false false = ap (λ (k : ℕ). record { command = CommandOf.Rejected (rejection_of (command_code s at active model)); next = k }) (sym (add-zero at))
 
     pub decode-at : decode s at active model ≡ moved at (decode (drop at s) 0 active model)
     unfolding decode
@@ -93,20 +88,20 @@ module _ (s : List ℕ) (at : ℕ) where
 module _ (n : ℕ) where
   module _ (to : ℕ) (t : State) (x : Session) where
     outcome-later : (o : Outcome) (r : Reply) → later_reply n r ≡ r → by_outcome o (accepted r (n + to) t) (λ c. rejected c (n + x.at) (later_session n x)) ≡ later n (by_outcome o (accepted r to t) (λ c. rejected c x.at x))
-    outcome-later OutcomeOf.Accepted r e = rw e
-    outcome-later (OutcomeOf.Rejected c) r e = refl
+    outcome-later (Ok u) r e = rw e
+    outcome-later (Err c) r e = refl
 
     answer-later : (o : Answer) (r : ℤ → Reply) → ((v : ℤ) → later_reply n (r v) ≡ r v) → by_answer o (λ v. accepted (r v) (n + to) t) (λ c. rejected c (n + x.at) (later_session n x)) ≡ later n (by_answer o (λ v. accepted (r v) to t) (λ c. rejected c x.at x))
-    answer-later (AnswerOf.Accepted v) r e = rw (e v)
-    answer-later (AnswerOf.Rejected c) r e = refl
+    answer-later (Ok v) r e = rw (e v)
+    answer-later (Err c) r e = refl
 
-    variance-later : (o : Variance) (r : ℕ → ℕ → Reply) → ((h l : ℕ) → later_reply n (r h l) ≡ r h l) → by_variance o (λ h l. accepted (r h l) (n + to) t) (λ c. rejected c (n + x.at) (later_session n x)) ≡ later n (by_variance o (λ h l. accepted (r h l) to t) (λ c. rejected c x.at x))
-    variance-later (VarianceOf.Accepted h l) r e = rw (e h l)
-    variance-later (VarianceOf.Rejected c) r e = refl
+    variance-later : (o : Result Variance Rejection) (r : ℕ → ℕ → Reply) → ((h l : ℕ) → later_reply n (r h l) ≡ r h l) → by_variance o (λ h l. accepted (r h l) (n + to) t) (λ c. rejected c (n + x.at) (later_session n x)) ≡ later n (by_variance o (λ h l. accepted (r h l) to t) (λ c. rejected c x.at x))
+    variance-later (Ok v) r e = rw (e v.high v.low)
+    variance-later (Err c) r e = refl
 
-    relative-later : (o : RelativeVariance) (r : Float → Reply) → ((v : Float) → later_reply n (r v) ≡ r v) → by_relative o (λ v. accepted (r v) (n + to) t) (λ c. rejected c (n + x.at) (later_session n x)) ≡ later n (by_relative o (λ v. accepted (r v) to t) (λ c. rejected c x.at x))
-    relative-later (RelativeOf.Accepted v) r e = rw (e v)
-    relative-later (RelativeOf.Rejected c) r e = refl
+    relative-later : (o : Result Float Rejection) (r : Float → Reply) → ((v : Float) → later_reply n (r v) ≡ r v) → by_relative o (λ v. accepted (r v) (n + to) t) (λ c. rejected c (n + x.at) (later_session n x)) ≡ later n (by_relative o (λ v. accepted (r v) to t) (λ c. rejected c x.at x))
+    relative-later (Ok v) r e = rw (e v)
+    relative-later (Err c) r e = refl
 
   last-later : (r : Reply) → is_last (later_reply n r) ≡ is_last r
   last-later (ReplyOf.Opened model m) = refl
@@ -115,7 +110,7 @@ module _ (n : ℕ) where
   last-later (ReplyOf.Forecast h v) = refl
   last-later (ReplyOf.Variance h high low) = refl
   last-later (ReplyOf.Saved k) = refl
-  last-later (ReplyOf.Rejected code offset) = refl
+  last-later (ReplyOf.Rejected r offset) = refl
   last-later (ReplyOf.Ended count) = refl
   last-later ReplyOf.Silent = refl
   last-later (ReplyOf.RelativeVariance h bits) = refl
@@ -135,8 +130,8 @@ module _ (n : ℕ) where
         e : n + x.at + open_offset u ≡ n + (x.at + open_offset u)
         e = omega arith
 
-        go : (b : Bool) → cond b (accepted (ReplyOf.Opened (read u).state.model (read u).state.period) (n + x.at + open_offset u) (read u).state) (rejected (open_code u) (n + x.at + open_offset u) X)
-            ≡ later n (cond b (accepted (ReplyOf.Opened (read u).state.model (read u).state.period) (x.at + open_offset u) (read u).state) (rejected (open_code u) (x.at + open_offset u) x))
+        go : (b : Bool) → cond b (accepted (ReplyOf.Opened (read u).state.model (read u).state.period) (n + x.at + open_offset u) (read u).state) (rejected (rejection_of (open_code u)) (n + x.at + open_offset u) X)
+            ≡ later n (cond b (accepted (ReplyOf.Opened (read u).state.model (read u).state.period) (x.at + open_offset u) (read u).state) (rejected (rejection_of (open_code u)) (x.at + open_offset u) x))
         go true = rw e
         go false = rw e
 
@@ -149,7 +144,7 @@ module _ (n : ℕ) where
     act-later to (CommandOf.Forecast h) = answer-later to x.state x (forecast x.state h) (λ v. ReplyOf.Forecast h v) (λ v. refl)
     act-later to (CommandOf.Variance h sigma2) = variance-later to x.state x (variance x.state h sigma2) (λ a b. ReplyOf.Variance h a b) (λ a b. refl)
     act-later to CommandOf.Save = outcome-later to x.state x (save x.state room) (ReplyOf.Saved (length (encoded x.state))) refl
-    act-later to (CommandOf.Rejected code) = refl
+    act-later to (CommandOf.Rejected r) = refl
     act-later to CommandOf.SwitchToEven = outcome-later to (switch_to_even x.state).state x (switch_to_even x.state).outcome ReplyOf.Silent refl
     act-later to (CommandOf.RelativeVariance h sigma2) = relative-later to x.state x (relative_variance x.state h sigma2 max_horizon) (λ v. ReplyOf.RelativeVariance h (to_bits binary64 v)) (λ v. refl)
     act-later to (CommandOf.Store slot) = outcome-later to x.state x (store x.state slot (length cs)) ReplyOf.Silent refl
@@ -180,7 +175,7 @@ module _ (n : ℕ) where
     same-checkpointed (CommandOf.Forecast h) = refl
     same-checkpointed (CommandOf.Variance h sigma2) = refl
     same-checkpointed CommandOf.Save = refl
-    same-checkpointed (CommandOf.Rejected code) = refl
+    same-checkpointed (CommandOf.Rejected r) = refl
     same-checkpointed CommandOf.SwitchToEven = refl
     same-checkpointed (CommandOf.RelativeVariance h sigma2) = refl
     same-checkpointed (CommandOf.Store slot) = refl
@@ -218,18 +213,18 @@ module _ (n : ℕ) where
       rw l (some-later (suc (length t - x.at)) s t x cs e)
 
   -- ---- the line of an answer does not tell where the session stands
-  pub same_line : (p : Performed) → ((code offset : ℕ) → p.reply ≡ ReplyOf.Rejected code offset → ⊥) → line_after (later n p) ≡ line_after p
+  pub same_line : (p : Performed) → ((r : Rejection) (offset : ℕ) → p.reply ≡ ReplyOf.Rejected r offset → ⊥) → line_after (later n p) ≡ line_after p
   unfolding line_after
   same_line p h = go p.reply h
     where
-      go : (r : Reply) → ((code offset : ℕ) → r ≡ ReplyOf.Rejected code offset → ⊥) → line_of (later_reply n r) (encoded p.session.state) ≡ line_of r (encoded p.session.state)
+      go : (r : Reply) → ((q : Rejection) (offset : ℕ) → r ≡ ReplyOf.Rejected q offset → ⊥) → line_of (later_reply n r) (encoded p.session.state) ≡ line_of r (encoded p.session.state)
       go (ReplyOf.Opened model m) h = refl
       go (ReplyOf.Residual e) h = refl
       go ReplyOf.Missing h = refl
       go (ReplyOf.Forecast j v) h = refl
       go (ReplyOf.Variance j high low) h = refl
       go (ReplyOf.Saved k) h = refl
-      go (ReplyOf.Rejected code offset) h = absurd (h code offset refl)
+      go (ReplyOf.Rejected q offset) h = absurd (h q offset refl)
       go (ReplyOf.Ended count) h = refl
       go ReplyOf.Silent h = refl
       go (ReplyOf.RelativeVariance j bits) h = refl

@@ -8,12 +8,9 @@ use borrow.Author.Tests.{eqb-true, le-leb, lt-leb}
 use lib.Dec.{eqb}
 use lib.ListN.{length, take, drop, get_or, replicate, take-append-drop, get_or-append}
 use lib.Seq.{length-take-le, take-take, take-add, take_at, drop_at, drop-append-add, get_or-take}
-use Rattle.state.specs.Rejections.{outcome_code}
 use Rattle.state.specs.Scores.{no_score}
 use Rattle.state.specs.declared.State.{State}
-use Rattle.state.specs.declared.Outcome.TheVariants as OutcomeOf
-use Rattle.state.specs.declared.Answer.TheVariants as AnswerOf
-use Rattle.state.proofs.Answers.{outcome-code}
+use Rattle.state.proofs.Answers.{outcome-accepted}
 use Rattle.layout.specs.Bytes.{AreBytes, from_bytes, unsigned_at}
 use Rattle.layout.specs.CommandTable.{command_size, opens}
 use Rattle.layout.specs.Layout.{end_at, scored_in, period_in, score_in}
@@ -26,6 +23,7 @@ use Rattle.snapshot.proofs.OldForms.{old-forms}
 use Rattle.saving.specs.Encoding.{encoded}
 use Rattle.decoding.specs.Decoding.{command_code, operands, decode}
 use Rattle.round_trips.proofs.RoundTrip.{read_back, has-score, saved-back, upgraded-back, decoded-typed}
+use Rattle.std.specs.Prelude.{Ok}
 
 -- ---- a group that is accepted, before whatever follows it
 pub record Again (u : List ℕ) (v : List ℕ) : Type 0 where
@@ -94,7 +92,7 @@ module _ (u : List ℕ) (b : AreBytes u) (z : open_code u ≡ 0) (r : List ℕ) 
   abbrev v : List ℕ
   v = own ++ r
 
-  reads-again : scored_in u ≡ false → read v ≡ record { outcome = OutcomeOf.Accepted; state = t }
+  reads-again : scored_in u ≡ false → read v ≡ record { outcome = Ok tt; state = t }
   unfolding read
   reads-again e =
       ap read (sym (without-15 e)) ∙ old-forms saved saved-reads.0 (has-score t r) (no-score e) ∙ rw (saved-reads.0, saved-reads.2)
@@ -107,7 +105,7 @@ module _ (u : List ℕ) (b : AreBytes u) (z : open_code u ≡ 0) (r : List ℕ) 
   unfolding read
   again-old e =
       let q = reads-again e in
-      let c : open_code v ≡ 0 = sym (outcome-code (open_code v)) ∙ ap (λ (g : Opened). outcome_code g.outcome) q in
+      let c : open_code v ≡ 0 = outcome-accepted (open_code v) (ap (λ (g : Opened). g.outcome) q) in
       let k : end_at (scored_in v) (period_in v) ≡ n = rw (byte-again 36 (omega arith), byte-again 2 (omega arith)) (sym size.0) in
       record { code = c; offset = (accepted-size v c).0 ∙ k; state = rw c at (ap (λ (g : Opened). g.state) q) }
 

@@ -7,6 +7,7 @@ use Rattle.streams.specs.Stream.{answers}
 use Rattle.streams.specs.Promises.{listing}
 use Rattle.commands.specs.declared.Performed.{Performed}
 use Rattle.rollbacks.specs.Rollbacks.{KeptAndBack, without}
+use Rattle.state.specs.Rejections.{rejection_of}
 
 -- what is answered, one command after the other
 unfoldable pub replies_of : List Performed → List Reply
@@ -60,7 +61,7 @@ pub record Needed : Type 0 where
   -- another 50 between: 51 of its name is answered, and not as if it had never come
   pub kept : answered other
       ≡ ReplyOf.Opened 0 0 ∷ ReplyOf.Silent ∷ ReplyOf.Residual (pos 655360) ∷ ReplyOf.Silent ∷ ReplyOf.Silent ∷ ReplyOf.Silent ∷ ReplyOf.Forecast 1 (pos 327680) ∷ ReplyOf.Ended 1 ∷ []
-  pub never : answered (opening ++ (keep 1 ++ (back 2 ++ forecast))) ≡ ReplyOf.Opened 0 0 ∷ ReplyOf.Silent ∷ ReplyOf.Rejected 21 48 ∷ []
+  pub never : answered (opening ++ (keep 1 ++ (back 2 ++ forecast))) ≡ ReplyOf.Opened 0 0 ∷ ReplyOf.Silent ∷ ReplyOf.Rejected (rejection_of 21) 48 ∷ []
 
 pub record Names : Type 0 where
   -- a new group empties no name
@@ -70,12 +71,12 @@ pub record Names : Type 0 where
   pub twice : answered (opening ++ (reading 10 ++ (keep 0 ++ (reading 50 ++ (back 0 ++ (reading 50 ++ (back 0 ++ forecast)))))))
       ≡ ReplyOf.Opened 0 0 ∷ ReplyOf.Residual (pos 655360) ∷ ReplyOf.Silent ∷ ReplyOf.Residual (pos 2949120) ∷ ReplyOf.Silent ∷ ReplyOf.Residual (pos 2949120) ∷ ReplyOf.Silent ∷ ReplyOf.Forecast 1 (pos 327680) ∷ ReplyOf.Ended 1 ∷ []
   -- 21 of a name that holds nothing, and of a byte above 3 by either command; 3 where no state is open; 4 of a command cut short
-  pub empty : answered (opening ++ back 2) ≡ ReplyOf.Opened 0 0 ∷ ReplyOf.Rejected 21 46 ∷ []
-  pub above : answered (opening ++ keep 4) ≡ ReplyOf.Opened 0 0 ∷ ReplyOf.Rejected 21 46 ∷ []
-  pub above_back : answered (opening ++ (keep 3 ++ back 4)) ≡ ReplyOf.Opened 0 0 ∷ ReplyOf.Silent ∷ ReplyOf.Rejected 21 48 ∷ []
-  pub unopened : answered (keep 9) ≡ ReplyOf.Rejected 3 0 ∷ []
-  pub unopened_back : answered (back 0) ≡ ReplyOf.Rejected 3 0 ∷ []
-  pub cut : answered (opening ++ take 1 (keep 4)) ≡ ReplyOf.Opened 0 0 ∷ ReplyOf.Rejected 4 46 ∷ []
+  pub empty : answered (opening ++ back 2) ≡ ReplyOf.Opened 0 0 ∷ ReplyOf.Rejected (rejection_of 21) 46 ∷ []
+  pub above : answered (opening ++ keep 4) ≡ ReplyOf.Opened 0 0 ∷ ReplyOf.Rejected (rejection_of 21) 46 ∷ []
+  pub above_back : answered (opening ++ (keep 3 ++ back 4)) ≡ ReplyOf.Opened 0 0 ∷ ReplyOf.Silent ∷ ReplyOf.Rejected (rejection_of 21) 48 ∷ []
+  pub unopened : answered (keep 9) ≡ ReplyOf.Rejected (rejection_of 3) 0 ∷ []
+  pub unopened_back : answered (back 0) ≡ ReplyOf.Rejected (rejection_of 3) 0 ∷ []
+  pub cut : answered (opening ++ take 1 (keep 4)) ≡ ReplyOf.Opened 0 0 ∷ ReplyOf.Rejected (rejection_of 4) 46 ∷ []
 
 pub record Pins : Type 0 where
   pub shown : Shown

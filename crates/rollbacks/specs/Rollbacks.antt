@@ -11,6 +11,7 @@ use Rattle.commands.specs.Commands.{start, next_command, perform_checkpoints}
 use Rattle.streams.specs.Stream.{next, answers_from, line_after}
 use Rattle.commands.specs.declared.Session.{Session}
 use Rattle.commands.specs.declared.Performed.{Performed}
+use Rattle.state.specs.declared.Rejection.{Rejection}
 
 -- ---- what stands between two commands of a stream: the session, and what the names hold
 pub record Standing : Type 0 where
@@ -47,7 +48,7 @@ is_store CommandOf.Missing = false
 is_store (CommandOf.Forecast h) = false
 is_store (CommandOf.Variance h sigma2) = false
 is_store CommandOf.Save = false
-is_store (CommandOf.Rejected code) = false
+is_store (CommandOf.Rejected r) = false
 is_store CommandOf.SwitchToEven = false
 is_store (CommandOf.RelativeVariance h sigma2) = false
 is_store (CommandOf.Store slot) = true
@@ -79,7 +80,7 @@ later_reply n ReplyOf.Missing = ReplyOf.Missing
 later_reply n (ReplyOf.Forecast h v) = ReplyOf.Forecast h v
 later_reply n (ReplyOf.Variance h high low) = ReplyOf.Variance h high low
 later_reply n (ReplyOf.Saved k) = ReplyOf.Saved k
-later_reply n (ReplyOf.Rejected code offset) = ReplyOf.Rejected code (n + offset)
+later_reply n (ReplyOf.Rejected r offset) = ReplyOf.Rejected r (n + offset)
 later_reply n (ReplyOf.Ended count) = ReplyOf.Ended count
 later_reply n ReplyOf.Silent = ReplyOf.Silent
 later_reply n (ReplyOf.RelativeVariance h bits) = ReplyOf.RelativeVariance h bits
@@ -124,4 +125,4 @@ module _ (s : List ℕ) (slot : ℕ) (r : KeptAndBack s slot) where
 pub record Rollbacks : Type 0 where
   pub back : (s : List ℕ) (slot : ℕ) → AreBytes s → (r : KeptAndBack s slot) → Rollback s slot r
   -- an answer that is told later has the same line, but for X
-  pub lines : (n : ℕ) (p : Performed) → ((code offset : ℕ) → p.reply ≡ ReplyOf.Rejected code offset → ⊥) → line_after (later n p) ≡ line_after p
+  pub lines : (n : ℕ) (p : Performed) → ((r : Rejection) (offset : ℕ) → p.reply ≡ ReplyOf.Rejected r offset → ⊥) → line_after (later n p) ≡ line_after p

@@ -19,7 +19,6 @@ use Rattle.state.specs.Scores.{score_of, no_score}
 use Rattle.state.specs.States.{Typed, check, cell_ok}
 use Rattle.state.specs.Regions.{opened_by}
 use Rattle.state.specs.declared.State.{State}
-use Rattle.state.specs.declared.Outcome.TheVariants as OutcomeOf
 use Rattle.integers.proofs.Tests.{all_below-at}
 use Rattle.models.proofs.ModelLaws.{model-again}
 use Rattle.state.proofs.Tests.{zero_is}
@@ -33,7 +32,7 @@ use Rattle.layout.specs.Layout.{model_at, level_at, score_at, season_at, positio
 use Rattle.snapshot.specs.Snapshots.{open_code, open_offset, cells_at, decoded, read, rest_of}
 use Rattle.snapshot.specs.Promises.{old_form}
 use Rattle.slices.specs.Slices.{in_place_code}
-use Rattle.snapshot.specs.declared.reading.Scanned.{Scanned}
+use Rattle.snapshot.specs.Snapshots.{Scanned}
 use Rattle.snapshot.proofs.Accepting.{Due, Season, Accepted, accepted, accepts, accepted-size, period-most}
 use Rattle.slices.proofs.SliceLaws.{one-snapshot, nothing-after}
 use Rattle.snapshot.proofs.OldForms.{old-forms}
@@ -44,6 +43,7 @@ use Rattle.saving.specs.Saving.{save, save_code, saved_bytes}
 use Rattle.round_trips.specs.Promises.{upgraded, ReadsSaved, SavesRead, Reopens}
 use Rattle.saving.proofs.ByteLaws.{length-to_bytes, unsigned-lt, unsigned_back, signed_back, unsigned-again, signed-again}
 use Rattle.saving.proofs.Lengths.{length-seasons, length-encoded}
+use Rattle.std.specs.Prelude.{Ok}
 
 -- ---- a command with an index byte and eight bytes more, at an offset of a stream
 module _ (x : List ℕ) (at first k : ℕ) (bs u : List ℕ) (e : drop at x ≡ (first ∷ k ∷ bs) ++ u) where
@@ -372,12 +372,12 @@ decoded-typed s b = record { cells = length-cells s (period_in s); low = go (sco
     go false = omega arith
 
 -- ---- a snapshot that was saved by 10, before there was a region: its first byte changed to 18
-reads-encoded : (s : State) → Typed s → check s ≡ 0 → read (encoded s) ≡ record { outcome = OutcomeOf.Accepted; state = s }
+reads-encoded : (s : State) → Typed s → check s ≡ 0 → read (encoded s) ≡ record { outcome = Ok tt; state = s }
 unfolding read
 reads-encoded s full ok = let r = rw (append-nil (encoded s)) at (read_back s [] full ok) in rw (r.0, r.2)
 
 -- so does its old form, where the score is zeros
-reads_old : (s : State) → Typed s → check s ≡ 0 → s.score ≡ no_score → read (old_form (encoded s)) ≡ record { outcome = OutcomeOf.Accepted; state = s }
+reads_old : (s : State) → Typed s → check s ≡ 0 → s.score ≡ no_score → read (old_form (encoded s)) ≡ record { outcome = Ok tt; state = s }
 reads_old s full ok none =
     let r = rw (append-nil (encoded s)) at (read_back s [] full ok) in
     let h = rw (append-nil (encoded s)) at (has-score s []) in

@@ -1,14 +1,17 @@
 -- Laws of `from_bytes` and `to_bytes` at every width, and of runs of stores.
-use Prim.Native.Nat.{ℕ, zero, suc, ◌+◌, ◌-◌, ◌/◌, ◌%◌, ◌^◌, ◌≤◌, ◌<◌}
-use mathlib.Core.Path.{◌≡◌, refl, ap}
+use Prim.Native.Nat.{ℕ, zero, suc, ◌+◌, ◌/◌, ◌%◌, ◌^◌, ◌≤◌, ◌<◌}
+use mathlib.Core.Path.{◌≡◌, refl, sym, ap, ap₂, ◌∙◌}
 use mathlib.Core.List.{List, [], ◌∷◌, ◌++◌}
-use native.Mathlib.Nat.{add-zero, add-suc, suc-add, pow-suc, div-lt_iff_lt-mul, one-le-pow}
+use native.Mathlib.Nat.{add-zero, add-suc, suc-add, pow-suc, div-lt_iff_lt-mul, div-div-eq-div-mul, div-one, one-le-pow}
 use native.Mathlib.Omega.{arith}
 use lib.Arith.{digits_div, digits_mod}
 use lib.Dec.{lit<}
 use lib.IntN.{ℤ}
 use lib.ListN.{length, length-drop, take, drop, set}
-use lib.Seq.{get_or-drop, sets, length-take-le}
+use lib.Seq.{get_or-drop, drop-drop, sets, sets-eq, length-take-le}
+use borrow.Rule.Slice.PartMut.{put_mid}
+use Rattle.std.proofs.Common.{append_assoc}
+use Rattle.std.specs.Int.{byte_at, bytes_low_first, to_le_bytes}
 use mir.Syntax.{w64}
 use mir.Val.{SFits, of_z}
 use mir.ValLaws.{of_z_fits, to_z-of_z, of_z-to_z}
@@ -31,14 +34,29 @@ from_bytes-lt zero xs h = lit< tt
 from_bytes-lt (suc n) [] h = one-le-pow (suc n) 256 (lit< tt)
 from_bytes-lt (suc n) (x ∷ xs) h = rw (pow-suc 256 n) (omega (arith, from_bytes-lt n xs (λ i. h (suc i)), h 0))
 
--- ---- one byte more, from the bottom up: what a turn of `write_le` stores
-pub to_bytes-more : (d : List ℕ) (at k i v : ℕ) → i < k
-    → sets (set d (at + i) (v % 256)) (at + (i + 1)) (to_bytes (k - (i + 1)) (v / 256)) ≡ sets d (at + i) (to_bytes (k - i) v)
+-- ---- the low bytes as the library tells them, and stored over a part of a slice
+le-bytes : (i k n : ℕ) → bytes_low_first i k n ≡ to_bytes k (n / 256 ^ i)
 unfolding to_bytes
-to_bytes-more d at k i v p =
-    let e : k - i ≡ suc (k - (i + 1)) = omega arith in
-    let f : at + (i + 1) ≡ suc (at + i) = omega arith in
-    rw (e, f)
+le-bytes i zero n = refl
+le-bytes i (suc k) n =
+    let e : n / 256 ^ i / 256 ≡ n / 256 ^ suc i = div-div-eq-div-mul n (256 ^ i) 256 ∙ ap (λ (p : ℕ). n / p) (sym (pow-suc 256 i)) in
+    ap₂ (λ (b : ℕ) (bs : List ℕ). b ∷ bs) (at i) (le-bytes (suc i) k n ∙ ap (to_bytes k) (sym e))
+  where
+    at : (j : ℕ) → byte_at j n ≡ n / 256 ^ j % 256
+    at zero = rw (div-one n)
+    at (suc j) = refl
+
+take-to_bytes : (k j n : ℕ) → k ≤ j → take k (to_bytes j n) ≡ to_bytes k n
+unfolding to_bytes
+take-to_bytes zero j n h = refl
+take-to_bytes (suc k) zero n h = absurd (omega arith)
+take-to_bytes (suc k) (suc j) n h = ap (λ (bs : List ℕ). n % 256 ∷ bs) (take-to_bytes k j (n / 256) (omega arith))
+
+pub low-bytes : (k n : ℕ) → k ≤ 8 → take k (to_le_bytes w64 n) ≡ to_bytes k n
+low-bytes k n h = ap (take k) (le-bytes 0 8 n ∙ ap (to_bytes 8) (div-one n)) ∙ take-to_bytes k 8 n h
+
+pub stored : (d : List ℕ) (at k : ℕ) (bytes : List ℕ) → length bytes ≡ k → at + k ≤ length d → put_mid at k d bytes ≡ sets d at bytes
+stored d at k bytes e h = rw (sets-eq bytes d at (omega arith), e, drop-drop k at d, append_assoc)
 
 -- ---- the round trips, at every width
 from_bytes-to_bytes : (k n : ℕ) → n < 256 ^ k → from_bytes (to_bytes k n) ≡ n

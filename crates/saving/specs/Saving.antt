@@ -1,17 +1,16 @@
 -- Document 01, "Commands" and the refusal 12 of a snapshot (the paper's group): saving the one of a state.
-use Rattle.std.specs.Prelude.{ℕ, ◌+◌, cond, ◌&&◌, List, leb, length}
+use Rattle.std.specs.Prelude.{ℕ, ◌+◌, cond, ◌&&◌, List, leb, length, Result}
 use Rattle.std.proofs.lemmas.List.Edits.{sets}
-use Rattle.state.specs.Rejections.{unless, ◌then◌, outcome, short_buffer, accepting}
+use Rattle.state.specs.Rejections.{unless, ◌then◌, outcome, short_buffer, accepting, Outcome}
 use Rattle.state.specs.States.{check}
 use Rattle.state.specs.declared.State.{State}
-use Rattle.state.specs.declared.Outcome.{Outcome}
 use Rattle.layout.specs.Answers.{length_answer}
 use Rattle.layout.specs.Layout.{model_at, size_of}
-use Rattle.layout.specs.declared.Length.{Length}
 use Rattle.saving.specs.Encoding.{encoded}
+use Rattle.state.specs.declared.Rejection.{Rejection}
 
 -- the bytes needed are told before anything is written
-unfoldable pub bytes_needed : State → Length
+unfoldable pub bytes_needed : State → Result ℕ Rejection
 bytes_needed s = length_answer (check s) (size_of s.period)
 
 -- what rejects saving into so much room, or 0

@@ -17,13 +17,7 @@ pub fn write_le(d: &mut [u8], at: usize, k: usize, x: u64)
     requires { (k ≤ 8) × (at + k ≤ length d.old) }
     ensures { d.new ≡ sets d.old at (to_bytes k x) }
 {
-    let mut v = x;
-    let mut i = 0;
-    while i < k {
-        d[at + i] = (v % 256) as u8;
-        v /= 256;
-        i += 1;
-    }
+    d[at..at + k].copy_from_slice(&x.to_le_bytes()[..k]);
 }
 
 pub fn write_i64(d: &mut [u8], at: usize, z: i64)

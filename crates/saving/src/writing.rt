@@ -7,8 +7,9 @@ ghost use Rattle.saving.specs.Encoding.{parameter_bytes, model_bytes, level_byte
 
 use super::bytes::{write_byte, write_i64, write_le};
 use layout::{
-    ALPHA_AT, BETA_AT, GAMMA_AT, LEVEL_AT, LEVEL_VALUE_AT, MODEL_AT, MODEL_BYTE_AT, PERIOD_AT,
-    PHI_AT, READINGS_AT, SCORE_AT, SUM_HIGH_AT, SUM_LOW_AT, TREND_VALUE_AT, opener, season_at,
+    ALPHA_AT, BETA_AT, GAMMA_AT, LEVEL_AT, LEVEL_VALUE_AT, MODEL_AT, MODEL_BYTE_AT, Opcode,
+    PERIOD_AT, PHI_AT, READINGS_AT, SCORE_AT, SUM_HIGH_AT, SUM_LOW_AT, TREND_VALUE_AT, opener,
+    season_at,
 };
 use models::model_byte;
 use state::{Score, State};
@@ -47,7 +48,7 @@ pub fn write_level(d: &mut [u8], level: i64, trend: i64)
     requires { level_at + level_length ≤ length d.old }
     ensures { d.new ≡ sets d.old level_at (level_bytes level trend) }
 {
-    write_byte(d, LEVEL_AT, 0x11);
+    write_byte(d, LEVEL_AT, Opcode::Level as u8);
     write_i64(d, LEVEL_VALUE_AT, level);
     write_i64(d, TREND_VALUE_AT, trend);
 }
@@ -56,7 +57,7 @@ pub fn write_score(d: &mut [u8], s: Score)
     requires { score_at + score_length ≤ length d.old }
     ensures { d.new ≡ sets d.old score_at (score_bytes s) }
 {
-    write_byte(d, SCORE_AT, 0x15);
+    write_byte(d, SCORE_AT, Opcode::Score as u8);
     write_le(d, READINGS_AT, 8, s.readings);
     write_le(d, SUM_HIGH_AT, 8, s.high);
     write_le(d, SUM_LOW_AT, 8, s.low);
@@ -68,7 +69,7 @@ pub fn write_season(d: &mut [u8], k: u8, v: i64)
     ensures { d.new ≡ sets d.old (season_at true k) (season_bytes k v) }
 {
     let at = season_at(true, k);
-    write_byte(d, at, 0x12);
+    write_byte(d, at, Opcode::Season as u8);
     write_byte(d, at + 1, k);
     write_i64(d, at + 2, v);
 }
@@ -78,11 +79,8 @@ fn write_seasons(d: &mut [u8], m: u8, cells: &[i64; 48])
     requires { (m ≤ 48) × (season_at true m ≤ length d.old) }
     ensures { d.new ≡ sets d.old (season_at true 0) (seasons_bytes cells.now m) }
 {
-    let mut k = 0;
-    while k < m {
-        let v = cells[k as usize];
-        write_season(d, k, v);
-        k += 1;
+    for k in 0..m {
+        write_season(d, k, cells[k as usize]);
     }
 }
 
@@ -92,7 +90,7 @@ pub fn write_position(d: &mut [u8], m: u8, index: u8, count: u64)
     ensures { d.new ≡ sets d.old (season_at true m) (position_bytes index count) }
 {
     let at = season_at(true, m);
-    write_byte(d, at, 0x13);
+    write_byte(d, at, Opcode::Position as u8);
     write_byte(d, at + 1, index);
     write_le(d, at + 2, 8, count);
 }

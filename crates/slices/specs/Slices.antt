@@ -1,10 +1,9 @@
 -- Document 01, "Commands": a lent slice that holds one snapshot (the paper's group) and nothing after it, but for the room that an old one leaves (document 02, W-204).
-use Rattle.std.specs.Prelude.{ℕ, ◌+◌, ◌-◌, Bool, false, cond, ◌&&◌, List, eqb, leb, pos, length}
-use Rattle.state.specs.Rejections.{unless, ◌then◌, out_of_place, truncated, accepting, outcome, answer}
+use Rattle.std.specs.Prelude.{ℕ, ◌+◌, ◌-◌, Bool, cond, ◌&&◌, List, eqb, leb, pos, length, Result}
+use Rattle.state.specs.Rejections.{unless, ◌then◌, out_of_place, truncated, accepting, outcome, answer, Answer, gives}
 use Rattle.models.specs.Models.{ties_to_even}
 use Rattle.state.specs.Scores.{no_score}
 use Rattle.state.specs.States.{no_state}
-use Rattle.state.specs.declared.Answer.{Answer}
 use Rattle.state.specs.declared.Numbers.{Numbers}
 use Rattle.state.specs.declared.Score.{Score}
 use Rattle.state.specs.declared.State.{State}
@@ -14,6 +13,7 @@ use Rattle.snapshot.specs.Snapshots.{open_code, open_offset}
 use Rattle.fields.specs.Fields.{decoded}
 use Rattle.snapshot.specs.declared.Opened.{Opened}
 use Rattle.slices.specs.declared.Checked.{Checked}
+use Rattle.state.specs.declared.Rejection.{Rejection}
 
 -- the bytes after a snapshot that are not looked at: none, or up to 25 after an old one, so that the new one fits
 abbrev pub spare : Bool → ℕ
@@ -43,23 +43,11 @@ numbers_in s =
 
 abbrev pub checked_in : List ℕ → Checked
 checked_in s =
-    record { code = 0; scored = scored_in s; even = ties_to_even (model_in s); period = period_in s; index = index_in s (period_in s); numbers = numbers_in s }
-
--- what stands beside a rejection
-abbrev pub not_opened : ℕ → Checked
-not_opened code =
-    record {
-      code = code;
-      scored = false;
-      even = false;
-      period = 0;
-      index = 0;
-      numbers = record { alpha = 0; beta = 0; gamma = 0; phi = 0; level = pos 0; trend = pos 0; season = pos 0; count = 0 };
-    }
+    record { scored = scored_in s; even = ties_to_even (model_in s); period = period_in s; index = index_in s (period_in s); numbers = numbers_in s }
 
 -- the call: what a call on the slice goes by
-unfoldable pub opened_in : List ℕ → Checked
-opened_in d = accepting (in_place_code d) (checked_in d) not_opened
+unfoldable pub opened_in : List ℕ → Result Checked Rejection
+opened_in d = gives (in_place_code d) (checked_in d)
 
 -- the call: the season value of index k; 4 where the slice ends before or inside its command
 unfoldable pub season_value : List ℕ → ℕ → Answer

@@ -2,9 +2,10 @@
 #![tactic(auto)]
 
 ghost use Rattle.std.specs.Prelude.{◌≡◌, cond, eqb, pos};
+ghost use Rattle.state.specs.Rejections.{outcome};
 ghost use Rattle.layout.specs.Layout.{scored_in, period_in, season_in, index_in};
 ghost use Rattle.snapshot.specs.Facts.{Room};
-ghost use Rattle.slices.specs.Slices.{spare, in_place_code, in_place_read, checked_in, not_opened, opened_in, season_value, score_value, state_value};
+ghost use Rattle.slices.specs.Slices.{spare, in_place_code, in_place_read, checked_in, opened_in, season_value, score_value, state_value};
 
 use fields::{is_scored, season_in, state_at};
 use layout::{
@@ -15,14 +16,11 @@ use layout::{
 use models::{MAX_PERIOD, ties_to_even};
 use operands::{byte_at, read_i64, read_u32, read_u64};
 use snapshot::{Opened, scan};
-use state::{
-    Answer, Numbers, OUT_OF_PLACE, Outcome, Score, State, TRUNCATED, no_score, no_state, unless,
-};
+use state::{Numbers, Rejection, Score, State, no_score, no_state, unless};
 
-// What a call on a lent slice goes by: the slice's rejection or 0, and then the numbers of its snapshot, the season value being the one due.
+// What a call on a lent slice goes by: the numbers of its snapshot, the season value being the one due.
 #[derive(Clone, Copy)]
 pub struct Checked {
-    pub code: u8,
     // Whether the snapshot has command 15.
     pub scored: bool,
     // The rounding rule: whether ties go to the even number, else up.
@@ -30,29 +28,6 @@ pub struct Checked {
     pub period: u8,
     pub index: u8,
     pub numbers: Numbers,
-}
-
-// What stands in the place of the numbers after a rejection.
-fn unopened(code: u8) -> Checked
-    ensures { result ≡ not_opened code }
-{
-    Checked {
-        code,
-        scored: false,
-        even: false,
-        period: 0,
-        index: 0,
-        numbers: Numbers {
-            alpha: 0,
-            beta: 0,
-            gamma: 0,
-            phi: 0,
-            level: 0,
-            trend: 0,
-            season: 0,
-            count: 0,
-        },
-    }
 }
 
 // The bytes after a snapshot that are not looked at.
@@ -63,16 +38,16 @@ fn spare(scored: bool) -> usize
 }
 
 // The slice holds one snapshot: its own rejection, then 3 for bytes after it, more than 25 of them where it is an old one.
-pub fn slice_code(snapshot: &[u8]) -> u8
-    ensures { result ≡ in_place_code snapshot.now }
+pub fn check_slice(snapshot: &[u8]) -> Result<(), Rejection>
+    ensures { result ≡ outcome (in_place_code snapshot.now) }
 {
-    let found = scan(snapshot);
-    let code = found.code;
-    if code != 0 {
-        return code;
+    match scan(snapshot) {
+        Ok(end) => {
+            let left = snapshot.len() - end;
+            unless(left <= spare(is_scored(snapshot)), Rejection::OutOfPlace)
+        }
+        Err(stopped) => Err(stopped.rejection),
     }
-    let left = snapshot.len() - found.offset;
-    unless(left <= spare(is_scored(snapshot)), OUT_OF_PLACE)
 }
 
 // The season value that is due in an accepted snapshot, 0 without season.
@@ -102,7 +77,6 @@ fn checked_at(s: &[u8]) -> Checked
     let from = at + 2;
     let end = at + POSITION_LENGTH;
     Checked {
-        code: 0,
         scored,
         even: ties_to_even(s[MODEL_BYTE_AT]),
         period,
@@ -121,42 +95,34 @@ fn checked_at(s: &[u8]) -> Checked
 }
 
 // The numbers that a call goes by.
-pub fn slice_numbers(snapshot: &[u8]) -> Checked
+pub fn slice_numbers(snapshot: &[u8]) -> Result<Checked, Rejection>
     ensures { result ≡ opened_in snapshot.now }
 {
-    let code = slice_code(snapshot);
-    if code != 0 {
-        return unopened(code);
-    }
-    checked_at(snapshot)
+    check_slice(snapshot)?;
+    Ok(checked_at(snapshot))
 }
 
 // The state that the slice holds.
 pub fn read(snapshot: &[u8]) -> Opened
     ensures { result ≡ in_place_read snapshot.now }
 {
-    let code = slice_code(snapshot);
-    if code != 0 {
-        return Opened {
-            outcome: Outcome::Rejected(code),
-            state: no_state(),
-        };
-    }
-    Opened {
-        outcome: Outcome::Accepted,
-        state: state_at(snapshot),
-    }
+    let outcome = check_slice(snapshot);
+    let state = if outcome.is_ok() {
+        state_at(snapshot)
+    } else {
+        no_state()
+    };
+    Opened { outcome, state }
 }
 
 // The season value of index k; 4 where the slice ends before or inside its command.
-pub fn season_value(snapshot: &[u8], k: u8) -> Answer
+pub fn season_value(snapshot: &[u8], k: u8) -> Result<i64, Rejection>
     ensures { result ≡ season_value snapshot.now k }
 {
     let scored = is_scored(snapshot);
-    if snapshot.len() < season_at(scored, k) + SEASON_LENGTH {
-        return Answer::Rejected(TRUNCATED);
-    }
-    Answer::Accepted(season_in(snapshot, scored, k))
+    let end = season_at(scored, k) + SEASON_LENGTH;
+    unless(end <= snapshot.len(), Rejection::Truncated)?;
+    Ok(season_in(snapshot, scored, k))
 }
 
 // The score; all 0 where there is no command 15 or the slice ends inside it.

@@ -20,7 +20,7 @@ use Rattle.layout.specs.CommandTable.{command_size, is_command, opener, model_le
 use Rattle.layout.specs.Layout.{model_at, level_at, score_at, season_at, position_at, end_at, outside_in, scored_in, model_in, period_in, alpha_in, beta_in, gamma_in, phi_in, level_in, trend_in, score_in, season_index_in, season_in, index_in, count_in}
 use Rattle.snapshot.specs.Snapshots.{due_code, model_code, level_code, score_code, season_code, position_code, finished, scan_position, scan_seasons, scan, open_code, open_offset}
 use Rattle.snapshot.specs.Facts.{Room}
-use Rattle.snapshot.specs.declared.reading.Scanned.{Scanned}
+use Rattle.snapshot.specs.Snapshots.{Scanned}
 
 -- the command that is due at an offset stands there, whole
 pub record Due (s : List ℕ) (at first size : ℕ) : Type 0 where

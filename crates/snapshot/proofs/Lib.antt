@@ -3,3 +3,4 @@ pub mod ByteLaws
 pub mod Decoded
 pub mod OffsetLaws
 pub mod OldForms
+pub mod Stops

@@ -17,7 +17,7 @@ use Rattle.layout.specs.CommandTable.{command_size, is_command, opener}
 use Rattle.layout.specs.Layout.{model_at, level_at, score_at, season_at, position_at, end_at, outside_in, scored_in, model_in, period_in, alpha_in, beta_in, gamma_in, phi_in, level_in, trend_in, score_in, season_index_in, season_in, index_in, count_in}
 use Rattle.snapshot.specs.Snapshots.{due_code, model_code, level_code, score_code, season_code, position_code, finished, scan_position, scan_seasons, scan}
 use Rattle.snapshot.specs.Promises.{Offsets}
-use Rattle.snapshot.specs.declared.reading.Scanned.{Scanned}
+use Rattle.snapshot.specs.Snapshots.{Scanned}
 use Rattle.snapshot.proofs.Accepting.{model, level, score, season, position}
 
 -- the bytes end before a command at an offset, or inside it

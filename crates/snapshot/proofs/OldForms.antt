@@ -14,7 +14,7 @@ use Rattle.layout.specs.CommandTable.{score_length}
 use Rattle.layout.specs.Layout.{score_at, season_at, position_at, scored_in, model_in, period_in, alpha_in, beta_in, gamma_in, phi_in, level_in, trend_in, score_in, season_index_in, season_in, index_in, count_in}
 use Rattle.snapshot.specs.Snapshots.{cells_at, decoded, read}
 use Rattle.snapshot.specs.Promises.{OldForms}
-use Rattle.snapshot.specs.declared.reading.Scanned.{Scanned}
+use Rattle.snapshot.specs.Snapshots.{Scanned}
 use Rattle.snapshot.proofs.Accepting.{Model, Level, Season, Position, Accepted, accepted, accepts}
 
 -- so many bytes of two lists, where they are the same one by one

@@ -1,6 +1,6 @@
 -- Document 01, "Commands", document 02, W-204, and the refusals 2 to 10, 16 and 17 of a snapshot (the paper's group): reading one.
-use Rattle.std.specs.Prelude.{ℕ, zero, suc, ◌-◌, cond, ◌&&◌, List, eqb, ltb, leb, length, drop, get_or}
-use Rattle.state.specs.Rejections.{unless, ◌then◌, outcome, unknown_command, out_of_place, truncated, bad_model, bad_period, wrong_index, bad_value, bad_position, bad_score, accepting}
+use Rattle.std.specs.Prelude.{ℕ, zero, suc, ◌-◌, cond, ◌&&◌, List, eqb, ltb, leb, length, drop, get_or, Err, Ok, Result, ⊤}
+use Rattle.state.specs.Rejections.{unless, ◌then◌, outcome, unknown_command, out_of_place, truncated, bad_model, bad_period, wrong_index, bad_value, bad_position, bad_score, accepting, Outcome, rejection_of}
 use Rattle.state.specs.Fixed.{in_range}
 use Rattle.models.specs.Models.{valid_model, period_ok}
 use Rattle.state.specs.Scores.{score_ok}
@@ -9,7 +9,7 @@ use Rattle.layout.specs.CommandTable.{command_size, is_command, opener}
 use Rattle.layout.specs.Layout.{model_at, level_at, score_at, season_at, position_at, end_at, outside_in, scored_in, model_in, period_in, alpha_in, beta_in, gamma_in, phi_in, level_in, trend_in, score_in, season_index_in, season_in, index_in, count_in}
 unfoldable pub use Rattle.fields.specs.Fields.{cells_at, decoded}
 use Rattle.snapshot.specs.declared.Opened.{Opened}
-use Rattle.snapshot.specs.declared.reading.Scanned.{Scanned}
+use Rattle.snapshot.specs.declared.reading.Stopped.{Stopped}
 
 -- what rejects the command that is due at an offset, by its first byte, before its operands are looked at; or 0
 unfoldable pub due_code : List ℕ → ℕ → ℕ → ℕ
@@ -50,6 +50,20 @@ position_code s m =
     due_code s (position_at (scored_in s) m) 0x13
     then unless (index_ok m (index_in s m) && count_ok (count_in s m)) bad_position
     then unless (score_ok (count_in s m) (score_in s)) bad_score
+
+-- what a walk over a snapshot finds: the rejection and the offset of its command, or 0 and the offset of what follows
+pub record Scanned : Type 0 where
+  pub code : ℕ
+  pub offset : ℕ
+
+-- a command's answer with the offset that it stands at
+abbrev pub stopped_at : ℕ → Outcome → Result ⊤ Stopped
+stopped_at at (Ok u) = Ok u
+stopped_at at (Err r) = Err (record { rejection = r; offset = at })
+
+-- the call's answer: the offset of what follows, or the rejection and its offset
+abbrev pub scanned : Scanned → Result ℕ Stopped
+scanned r = accepting r.code (Ok r.offset) (λ (n : ℕ). Err (record { rejection = rejection_of n; offset = r.offset }))
 
 -- a command at an offset, by its rejection: what follows it is looked at where it is accepted
 abbrev pub finished : ℕ → ℕ → Scanned → Scanned

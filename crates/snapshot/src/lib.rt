@@ -5,16 +5,18 @@ pub mod promises;
 mod reading;
 
 ghost use Rattle.std.specs.Prelude.{◌≡◌};
+ghost use Rattle.state.specs.Rejections.{outcome};
 ghost use Rattle.snapshot.specs.Snapshots.{open_code, read, rest_of};
 
 use fields::state_at;
-pub use reading::{Scanned, scan};
-use state::{Outcome, State, no_state};
+pub use reading::{Stopped, scan};
+use state::{Rejection, State, no_state};
 
-// What reading a snapshot gives: the state, or the rejection and a state that every check refuses.
+// What reading a snapshot gives: the state, or the rejection and a state that every check refuses. No Result of a state: the theorem RejectedState speaks of the state
+// beside a rejection.
 #[derive(Clone, Copy)]
 pub struct Opened {
-    pub outcome: Outcome,
+    pub outcome: Result<(), Rejection>,
     pub state: State,
 }
 
@@ -22,29 +24,26 @@ pub struct Opened {
 pub fn read(stream: &[u8]) -> Opened
     ensures { result ≡ read stream.now }
 {
-    let found = scan(stream);
-    let code = found.code;
-    if code != 0 {
-        return Opened {
-            outcome: Outcome::Rejected(code),
+    match scan(stream) {
+        Ok(_) => Opened {
+            outcome: Ok(()),
+            state: state_at(stream),
+        },
+        Err(stopped) => Opened {
+            outcome: Err(stopped.rejection),
             state: no_state(),
-        };
-    }
-    Opened {
-        outcome: Outcome::Accepted,
-        state: state_at(stream),
+        },
     }
 }
 
-// The rest of the caller's bytes after the snapshot at their front, and the rejection or 0.
+// The rest of the caller's bytes after the snapshot at their front, and whether it was accepted.
 // After a rejection it begins with the rejected command, so that the command's offset is the difference of the lengths.
-pub fn rest<'a>(stream: &'a [u8], code: &mut u8) -> &'a [u8]
-    ensures part { result.now ≡ rest_of stream.now }
-    ensures rejection { code.new ≡ open_code stream.now }
+pub fn rest(stream: &[u8]) -> (&[u8], Result<(), Rejection>)
+    ensures part { result.0.now ≡ rest_of stream.now }
+    ensures rejection { result.1 ≡ outcome (open_code stream.now) }
 {
-    let found = scan(stream);
-    let rejection = found.code;
-    *code = rejection;
-    let offset = found.offset;
-    &stream[offset..]
+    match scan(stream) {
+        Ok(end) => (&stream[end..], Ok(())),
+        Err(stopped) => (&stream[stopped.offset..], Err(stopped.rejection)),
+    }
 }

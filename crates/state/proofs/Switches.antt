@@ -4,11 +4,12 @@ use mathlib.Core.Path.{◌≡◌, refl, ap, ◌∙◌}
 use native.Mathlib.Decide.{ℕ_discrete}
 use native.Mathlib.Omega.{arith}
 use borrow.Author.Tests.{ne_eqb}
+use Rattle.std.proofs.Common.{Ok, Err}
+use Rattle.state.specs.Rejections.{rejection_of}
 use Rattle.models.specs.Models.{trend_of, season_of, rounding_of, errors_of, to_up, to_even}
 use Rattle.state.specs.States.{parameters_code, check}
 use Rattle.state.specs.Switching.{switched, switch_to_even, SwitchLaws}
 use Rattle.state.specs.declared.State.{State}
-use Rattle.state.specs.declared.Outcome.TheVariants as OutcomeOf
 use Rattle.state.specs.declared.Switched.{Switched}
 
 -- ---- the parts of the byte
@@ -31,11 +32,11 @@ pub checks-kept : (s : State) → check (switched s) ≡ check s
 unfolding check parameters_code
 checks-kept s = rw (even_up s.model, even-trend s.model, even-season s.model)
 
-pub switch-accepted : (s : State) → check s ≡ 0 → switch_to_even s ≡ record { state = switched s; outcome = OutcomeOf.Accepted }
+pub switch-accepted : (s : State) → check s ≡ 0 → switch_to_even s ≡ record { state = switched s; outcome = Ok tt }
 unfolding switch_to_even
 switch-accepted s e = rw e
 
-pub switch-rejected : (s : State) (n : ℕ) → check s ≡ n → (n ≡ 0 → ⊥) → switch_to_even s ≡ record { state = s; outcome = OutcomeOf.Rejected n }
+pub switch-rejected : (s : State) (n : ℕ) → check s ≡ n → (n ≡ 0 → ⊥) → switch_to_even s ≡ record { state = s; outcome = Err (rejection_of n) }
 unfolding switch_to_even
 switch-rejected s n e h = rw (e, ne_eqb n 0 h)
 

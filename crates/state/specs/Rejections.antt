@@ -1,9 +1,7 @@
 -- Document 01, "Refusals, in checking order", and those of document 02: each number once, with its sentence. A code is the number of a refusal, or 0 for "accepted".
-use Rattle.std.specs.Prelude.{ℕ, Bool, cond, eqb, ℤ, pos}
-use Rattle.state.specs.declared.Outcome.{Outcome}
-use Rattle.state.specs.declared.Outcome.TheVariants as OutcomeOf
-use Rattle.state.specs.declared.Answer.{Answer}
-use Rattle.state.specs.declared.Answer.TheVariants as AnswerOf
+use Rattle.std.specs.Prelude.{ℕ, ◌≤◌, Bool, cond, eqb, ℤ, pos, Result, Ok, Err, ⊤}
+use Rattle.state.specs.declared.Rejection.{Rejection}
+use Rattle.state.specs.declared.Rejection.TheVariants as RejectionOf
 
 -- The program's input is longer than 65,536 bytes.
 abbrev pub input_too_long : ℕ
@@ -104,33 +102,104 @@ n then k = cond (eqb n 0) k n
 abbrev pub accepting : {A : Type 0} → ℕ → A → (ℕ → A) → A
 accepting code a r = cond (eqb code 0) a (r code)
 
+-- the number of each refusal of the code
+abbrev pub number : Rejection → ℕ
+number RejectionOf.InputTooLong = input_too_long
+number RejectionOf.UnknownCommand = unknown_command
+number RejectionOf.OutOfPlace = out_of_place
+number RejectionOf.Truncated = truncated
+number RejectionOf.BadModel = bad_model
+number RejectionOf.BadPeriod = bad_period
+number RejectionOf.BadParameter = bad_parameter
+number RejectionOf.WrongIndex = wrong_index
+number RejectionOf.BadValue = bad_value
+number RejectionOf.BadPosition = bad_position
+number RejectionOf.BadHorizon = bad_horizon
+number RejectionOf.ShortBuffer = short_buffer
+number RejectionOf.BadReading = bad_reading
+number RejectionOf.CountFull = count_full
+number RejectionOf.LeavesRange = leaves_range
+number RejectionOf.UnusualGains = unusual_gains
+number RejectionOf.BadScore = bad_score
+number RejectionOf.BadSigma2 = bad_sigma2
+number RejectionOf.NotFinite = not_finite
+number RejectionOf.BadCalendar = bad_calendar
+number RejectionOf.NoCheckpoint = no_checkpoint
+
+-- the refusal of a number from 1 to 21
+unfoldable pub rejection_of : ℕ → Rejection
+rejection_of n =
+    cond (eqb n input_too_long) RejectionOf.InputTooLong (
+    cond (eqb n unknown_command) RejectionOf.UnknownCommand (
+    cond (eqb n out_of_place) RejectionOf.OutOfPlace (
+    cond (eqb n truncated) RejectionOf.Truncated (
+    cond (eqb n bad_model) RejectionOf.BadModel (
+    cond (eqb n bad_period) RejectionOf.BadPeriod (
+    cond (eqb n bad_parameter) RejectionOf.BadParameter (
+    cond (eqb n wrong_index) RejectionOf.WrongIndex (
+    cond (eqb n bad_value) RejectionOf.BadValue (
+    cond (eqb n bad_position) RejectionOf.BadPosition (
+    cond (eqb n bad_horizon) RejectionOf.BadHorizon (
+    cond (eqb n short_buffer) RejectionOf.ShortBuffer (
+    cond (eqb n bad_reading) RejectionOf.BadReading (
+    cond (eqb n count_full) RejectionOf.CountFull (
+    cond (eqb n leaves_range) RejectionOf.LeavesRange (
+    cond (eqb n unusual_gains) RejectionOf.UnusualGains (
+    cond (eqb n bad_score) RejectionOf.BadScore (
+    cond (eqb n bad_sigma2) RejectionOf.BadSigma2 (
+    cond (eqb n not_finite) RejectionOf.NotFinite (
+    cond (eqb n bad_calendar) RejectionOf.BadCalendar (
+    RejectionOf.NoCheckpoint))))))))))))))))))))
+
+-- a number that is a refusal's, or 0
+abbrev pub IsCode : ℕ → Type 0
+IsCode n = n ≤ 21
+
+-- a call refused by the refusal of a number
+abbrev pub rejects : {A : Type 0} → ℕ → Result A Rejection
+rejects n = Err (rejection_of n)
+
+-- a call's answer: v, or the refusal n where it is not 0
+abbrev pub gives : {A : Type 0} → ℕ → A → Result A Rejection
+gives n v = accepting n (Ok v) rejects
+
 -- an answer without a number: accepted where the rejection n is 0
+abbrev pub Outcome : Type 0
+Outcome = Result ⊤ Rejection
+
 abbrev pub outcome : ℕ → Outcome
-outcome n = accepting n OutcomeOf.Accepted OutcomeOf.Rejected
+outcome n = gives n tt
 
 -- an answer with a number v: accepted where the rejection n is 0
+abbrev pub Answer : Type 0
+Answer = Result ℤ Rejection
+
 abbrev pub answer : ℕ → ℤ → Answer
-answer n v = accepting n (AnswerOf.Accepted v) AnswerOf.Rejected
+answer n v = gives n v
 
 -- the paper's number of each case, 0 for "accepted"
+abbrev pub code_in : {A : Type 0} → Result A Rejection → ℕ
+code_in (Ok v) = 0
+code_in (Err r) = number r
+
 abbrev pub outcome_code : Outcome → ℕ
-outcome_code OutcomeOf.Accepted = 0
-outcome_code (OutcomeOf.Rejected n) = n
+outcome_code o = code_in o
 
 abbrev pub answer_code : Answer → ℕ
-answer_code (AnswerOf.Accepted v) = 0
-answer_code (AnswerOf.Rejected n) = n
+answer_code a = code_in a
 
 -- the number of an accepted answer, 0 for a rejected one
 abbrev pub answer_value : Answer → ℤ
-answer_value (AnswerOf.Accepted v) = v
-answer_value (AnswerOf.Rejected n) = pos 0
+answer_value (Ok v) = v
+answer_value (Err r) = pos 0
 
 -- what is made of a call's answer, by its cases
-abbrev pub by_outcome : {A : Type 0} → Outcome → A → (ℕ → A) → A
-by_outcome OutcomeOf.Accepted a r = a
-by_outcome (OutcomeOf.Rejected code) a r = r code
+abbrev pub by_result : {A B : Type 0} → Result B Rejection → (B → A) → (Rejection → A) → A
+by_result (Ok v) a r = a v
+by_result (Err e) a r = r e
 
-abbrev pub by_answer : {A : Type 0} → Answer → (ℤ → A) → (ℕ → A) → A
-by_answer (AnswerOf.Accepted v) a r = a v
-by_answer (AnswerOf.Rejected code) a r = r code
+abbrev pub by_outcome : {A : Type 0} → Outcome → A → (Rejection → A) → A
+by_outcome o a r = by_result o (λ _. a) r
+
+abbrev pub by_answer : {A : Type 0} → Answer → (ℤ → A) → (Rejection → A) → A
+by_answer o a r = by_result o a r

@@ -2,7 +2,7 @@
 #![tactic(auto)]
 
 ghost use Rattle.std.specs.Prelude.{◌≡◌};
-ghost use Rattle.state.specs.Rejections.{unless, ◌then◌, outcome_code};
+ghost use Rattle.state.specs.Rejections.{number, unless, outcome, outcome_code};
 ghost use Rattle.state.specs.Pins.{Pins};
 ghost use Rattle.state.specs.Regions.{RegionLaws};
 ghost use Rattle.state.specs.Rounding.{Rounding};
@@ -10,48 +10,31 @@ ghost use Rattle.state.specs.Scores.{no_score};
 ghost use Rattle.state.specs.States.{no_state};
 ghost use Rattle.state.specs.Switching.{SwitchLaws};
 
-// The numbers of the refusals of documents 01 and 02.
-pub const INPUT_TOO_LONG: u8 = 1;
-
-pub const UNKNOWN_COMMAND: u8 = 2;
-
-pub const OUT_OF_PLACE: u8 = 3;
-
-pub const TRUNCATED: u8 = 4;
-
-pub const BAD_MODEL: u8 = 5;
-
-pub const BAD_PERIOD: u8 = 6;
-
-pub const BAD_PARAMETER: u8 = 7;
-
-pub const WRONG_INDEX: u8 = 8;
-
-pub const BAD_VALUE: u8 = 9;
-
-pub const BAD_POSITION: u8 = 10;
-
-pub const BAD_HORIZON: u8 = 11;
-
-pub const SHORT_BUFFER: u8 = 12;
-
-pub const BAD_READING: u8 = 13;
-
-pub const COUNT_FULL: u8 = 14;
-
-pub const LEAVES_RANGE: u8 = 15;
-
-pub const UNUSUAL_GAINS: u8 = 16;
-
-pub const BAD_SCORE: u8 = 17;
-
-pub const BAD_SIGMA2: u8 = 18;
-
-pub const NOT_FINITE: u8 = 19;
-
-pub const BAD_CALENDAR: u8 = 20;
-
-pub const NO_CHECKPOINT: u8 = 21;
+// Why a call is refused: the refusals of documents 01 and 02, each by the papers' number.
+#[derive(Clone, Copy, Debug, PartialEq, Eq)]
+pub enum Rejection {
+    InputTooLong = 1,
+    UnknownCommand = 2,
+    OutOfPlace = 3,
+    Truncated = 4,
+    BadModel = 5,
+    BadPeriod = 6,
+    BadParameter = 7,
+    WrongIndex = 8,
+    BadValue = 9,
+    BadPosition = 10,
+    BadHorizon = 11,
+    ShortBuffer = 12,
+    BadReading = 13,
+    CountFull = 14,
+    LeavesRange = 15,
+    UnusualGains = 16,
+    BadScore = 17,
+    BadSigma2 = 18,
+    NotFinite = 19,
+    BadCalendar = 20,
+    NoCheckpoint = 21,
+}
 
 // 2^40: level, trend and season values are at most that, and at least its negative.
 pub const MAX_VALUE: i64 = 0x100_0000_0000;
@@ -134,48 +117,34 @@ pub fn no_state() -> State
     }
 }
 
-// The answer of a call that gives no number.
-#[derive(Clone, Copy)]
-pub enum Outcome {
-    Accepted,
-    Rejected(u8),
-}
-
-// The answer of a call that gives a number.
-#[derive(Clone, Copy)]
-pub enum Answer {
-    Accepted(i64),
-    Rejected(u8),
-}
-
 // The state that stands after a switch of its rounding rule.
 #[derive(Clone, Copy)]
 pub struct Switched {
     pub state: State,
-    pub outcome: Outcome,
+    pub outcome: Result<(), Rejection>,
 }
 
-// A check: 0 where the test holds, else its rejection.
-pub fn unless(holds: bool, code: u8) -> u8
-    ensures { result ≡ unless holds code }
+// A check: its rejection where the test fails.
+pub fn unless(holds: bool, rejection: Rejection) -> Result<(), Rejection>
+    ensures { result ≡ outcome (unless holds (number rejection)) }
 {
-    if holds { 0 } else { code }
+    if holds { Ok(()) } else { Err(rejection) }
 }
 
-// Checks one after the other: the first rejection, or what the later ones say.
-pub fn first(n: u8, later: u8) -> u8
-    ensures { result ≡ (n then later) }
+// The paper's number of a refusal.
+pub fn number(rejection: Rejection) -> u8
+    ensures { result ≡ number rejection }
 {
-    if n == 0 { later } else { n }
+    rejection as u8
 }
 
-// The number of an answer's case, 0 where it is accepted.
-pub fn code_of(done: Outcome) -> u8
+// The paper's number of an answer's case, 0 where it is accepted.
+pub fn code_of(done: Result<(), Rejection>) -> u8
     ensures { result ≡ outcome_code done }
 {
     match done {
-        Outcome::Accepted => 0,
-        Outcome::Rejected(n) => n,
+        Ok(()) => 0,
+        Err(rejection) => number(rejection),
     }
 }
 

@@ -1,16 +1,14 @@
 -- Document 01, "Station cases": T1 to T12 as one table, T1's numbers by the other rounding rule (document 02, W-211), the score (document 02, W-204), the groups of a weight (document 02, W-210), and the model bytes with multiplicative errors (document 02, W-205). The function `cases::station_cases` promises it.
-use Rattle.std.specs.Prelude.{ℕ, ◌+◌, ◌-◌, ◌^◌, ◌≡◌, true, false, List, [], ◌∷◌, ℤ, pos, neg_ℤ}
+use Rattle.std.specs.Prelude.{ℕ, ◌+◌, ◌-◌, ◌^◌, ◌≡◌, true, false, List, [], ◌∷◌, ℤ, pos, neg_ℤ, Ok}
 use Rattle.state.specs.Fixed.{R}
 use Rattle.state.specs.Scores.{score_of, no_score}
 use Rattle.state.specs.States.{state_of, check}
 use Rattle.state.specs.declared.State.{State}
-use Rattle.state.specs.declared.Answer.TheVariants as AnswerOf
 use Rattle.ets.specs.Steps.{step_code, step, missing}
 use Rattle.forecasts.specs.Forecasts.{forecast_code, forecast}
 use Rattle.weights.specs.Weights.{weight, variance}
 use Rattle.weights.specs.Groups.{weight_groups_code, weight_group_cells}
-use Rattle.weights.specs.declared.Weight.TheVariants as WeightOf
-use Rattle.weights.specs.declared.Variance.TheVariants as VarianceOf
+use Rattle.state.specs.Rejections.{rejects}
 
 -- a row: the number of the case, what the definitions give, and what the paper says
 pub data Row : Type 1 where
@@ -64,26 +62,26 @@ table =
     ∷ row 1 (R false (minus 32768)) (pos 0)
     ∷ row 1 (R false (minus 32769)) (minus 1)
     -- T2: the listing's step: l = 327680. The listing's lines: E 655360, F 2 327680, V 2 0 21474836480, N 1.
-    ∷ row 2 (step listing (pos 10)).residual (AnswerOf.Accepted (pos 655360))
+    ∷ row 2 (step listing (pos 10)).residual (Ok (pos 655360))
     ∷ row 2 (after listing (pos 10)) (state_of false 0 0 32768 0 0 0 (pos 327680) (pos 0) [] 0 1 (score_of 1 0 100))
-    ∷ row 2 (forecast (after listing (pos 10)) 2) (AnswerOf.Accepted (pos 327680))
-    ∷ row 2 (variance (after listing (pos 10)) 2 4) (VarianceOf.Accepted 0 21474836480)
+    ∷ row 2 (forecast (after listing (pos 10)) 2) (Ok (pos 327680))
+    ∷ row 2 (variance (after listing (pos 10)) 2 4) (Ok (record { high = 0; low = 21474836480 }))
     -- T3: y 3: l 131072, b 98304; forecast 3 is 425984.
     ∷ row 3 (after straight (pos 3)) (state_of false 1 0 32768 16384 0 65536 (pos 131072) (pos 98304) [] 0 1 (score_of 1 0 4))
-    ∷ row 3 (forecast (after straight (pos 3)) 3) (AnswerOf.Accepted (pos 425984))
+    ∷ row 3 (forecast (after straight (pos 3)) 3) (Ok (pos 425984))
     -- T4: y 0: l 2, b 2; forecast 2 is 4.
     ∷ row 4 (after damped (pos 0)) (state_of false 2 0 0 0 0 32768 (pos 2) (pos 2) [] 0 1 (score_of 1 0 0))
-    ∷ row 4 (forecast (after damped (pos 0)) 2) (AnswerOf.Accepted (pos 4))
+    ∷ row 4 (forecast (after damped (pos 0)) 2) (Ok (pos 4))
     -- T5: y 5: l 65536, first s 196608, p 1; forecasts 1, 2, 3 are 0, 262144, 0.
     ∷ row 5 (after seasonal (pos 5)) (state_of false 4 2 16384 0 32768 0 (pos 65536) (pos 0) (pos 196608 ∷ minus 65536 ∷ []) 1 1 (score_of 1 0 16))
-    ∷ row 5 (forecast (after seasonal (pos 5)) 1) (AnswerOf.Accepted (pos 0))
-    ∷ row 5 (forecast (after seasonal (pos 5)) 2) (AnswerOf.Accepted (pos 262144))
-    ∷ row 5 (forecast (after seasonal (pos 5)) 3) (AnswerOf.Accepted (pos 0))
+    ∷ row 5 (forecast (after seasonal (pos 5)) 1) (Ok (pos 0))
+    ∷ row 5 (forecast (after seasonal (pos 5)) 2) (Ok (pos 262144))
+    ∷ row 5 (forecast (after seasonal (pos 5)) 3) (Ok (pos 0))
     -- T6: a missing reading after T5 moves p to 0 and nothing else but the count.
     ∷ row 6 (missing (after seasonal (pos 5))).state (state_of false 4 2 16384 0 32768 0 (pos 65536) (pos 0) (pos 196608 ∷ minus 65536 ∷ []) 0 2 (score_of 1 0 16))
     -- T7: the weight of 3 in T3 is 11005853696. T8: in T5 it is 6979321856.
-    ∷ row 7 (weight straight 3) (WeightOf.Accepted 11005853696)
-    ∷ row 8 (weight seasonal 3) (WeightOf.Accepted 6979321856)
+    ∷ row 7 (weight straight 3) (Ok 11005853696)
+    ∷ row 8 (weight seasonal 3) (Ok 6979321856)
     -- T9: model byte 3 is refusal 5, 6 is not.
     ∷ row 9 (check (state_of false 3 0 0 0 0 0 (pos 0) (pos 0) [] 0 0 no_score)) 5
     ∷ row 9 (check (state_of false 6 2 0 0 0 1 (pos 0) (pos 0) [] 0 0 no_score)) 0
@@ -128,8 +126,8 @@ table =
     ∷ row 205 (check (straight_as 11)) 5
     ∷ row 205 (check (straight_as 17)) 5
     ∷ row 205 (after (straight_as 9) (pos 3)) (state_of false 9 0 32768 16384 0 65536 (pos 131072) (pos 98304) [] 0 1 (score_of 1 0 4))
-    ∷ row 205 (forecast (after (straight_as 9) (pos 3)) 3) (AnswerOf.Accepted (pos 425984))
-    ∷ row 205 (weight (straight_as 9) 513) (WeightOf.Rejected 3)
+    ∷ row 205 (forecast (after (straight_as 9) (pos 3)) 3) (Ok (pos 425984))
+    ∷ row 205 (weight (straight_as 9) 513) (rejects 3)
     ∷ row 205 (weight_groups_code (straight_as 9) 513 0) 3
     ∷ []
 

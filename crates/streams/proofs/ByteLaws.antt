@@ -8,7 +8,7 @@ use borrow.Author.Tests.{lt-leb, le-leb}
 use lib.ListN.{length, get_or}
 use Rattle.integers.proofs.Tests.{and-false}
 use Rattle.models.specs.Models.{has_relative_errors}
-use Rattle.state.specs.Rejections.{out_of_place}
+use Rattle.state.specs.Rejections.{out_of_place, rejection_of}
 use Rattle.state.specs.Switching.{switched}
 use Rattle.state.proofs.Switches.{switch-accepted}
 use Rattle.layout.specs.CommandTable.{command_size, is_command, only_in_snapshot, opens}
@@ -21,7 +21,7 @@ use Rattle.streams.specs.Promises.{Sound, Switches, ErrorKinds}
 use Rattle.commands.specs.declared.Session.{Session}
 
 module _ (s : List ℕ) (x : Session) (cs : List ℕ) (room : ℕ) (h : x.at < length s) (b : get_or s x.at 0 ≡ 0x14) where
-  closed : x.active ≡ false → perform s x cs room ≡ rejected out_of_place x.at x
+  closed : x.active ≡ false → perform s x cs room ≡ rejected (rejection_of out_of_place) x.at x
   unfolding perform decode command_code allowed_here is_command command_size only_in_snapshot opens
   closed e = rw (lt-leb (length s) x.at h, b, e)
 
@@ -52,15 +52,15 @@ module _ (s : List ℕ) (x : Session) (cs : List ℕ) (room : ℕ) (h : x.at < l
   abbrev b : ℕ
   b = get_or s x.at 0
 
-  stray : is_command b ≡ true → allowed_here b x.active x.state.model ≡ false → perform s x cs room ≡ rejected out_of_place x.at x
+  stray : is_command b ≡ true → allowed_here b x.active x.state.model ≡ false → perform s x cs room ≡ rejected (rejection_of out_of_place) x.at x
   unfolding perform
   stray c e = rw (decode-stray s x.at x.active x.state.model h c e)
 
-  additive : b ≡ 0x31 → has_relative_errors x.state.model ≡ true → perform s x cs room ≡ rejected out_of_place x.at x
+  additive : b ≡ 0x31 → has_relative_errors x.state.model ≡ true → perform s x cs room ≡ rejected (rejection_of out_of_place) x.at x
   unfolding allowed_here
   additive q e = stray (rw q one-command) (rw (q, e) (and-false (not (only_in_snapshot 0x31) && (x.active || opens 0x31))))
 
-  relative : b ≡ 0x32 → has_relative_errors x.state.model ≡ false → perform s x cs room ≡ rejected out_of_place x.at x
+  relative : b ≡ 0x32 → has_relative_errors x.state.model ≡ false → perform s x cs room ≡ rejected (rejection_of out_of_place) x.at x
   unfolding allowed_here
   relative q e = stray (rw q two-command) (rw (q, e) (and-false (not (only_in_snapshot 0x32) && (x.active || opens 0x32))))
 

@@ -7,8 +7,7 @@ use mathlib.Core.List.{List}
 use native.Mathlib.Omega.{arith}
 use borrow.Author.Tests.{lt-leb, le-leb}
 use lib.ListN.{length, get_or}
-use Rattle.state.specs.Rejections.{out_of_place, no_checkpoint}
-use Rattle.state.specs.declared.Outcome.TheVariants as OutcomeOf
+use Rattle.state.specs.Rejections.{out_of_place, no_checkpoint, rejection_of}
 use Rattle.layout.specs.CommandTable.{command_size, is_command, only_in_snapshot, opens}
 use Rattle.checkpoints.specs.Checkpoints.{slots, checkpoints_size, store, restore_code, restore}
 use Rattle.checkpoints.proofs.CheckpointLaws.{stores_back, stored-code, no_slot, none_above, restored-outcome, restored-none}
@@ -19,6 +18,7 @@ use Rattle.commands.specs.Commands.{accepted, rejected, store_state, restore_sta
 use Rattle.streams.specs.Promises.{Sound, CheckpointLaws}
 use Rattle.commands.specs.declared.Session.{Session}
 use Rattle.commands.proofs.CommandLaws.{performs, keeps}
+use Rattle.std.specs.Prelude.{Ok}
 
 module _ (s : List ℕ) (x : Session) (d : List ℕ) (room slot : ℕ) (h : x.at + 2 ≤ length s) (operand : get_or s (x.at + 1) 0 ≡ slot) where
   abbrev b : ℕ
@@ -30,7 +30,7 @@ module _ (s : List ℕ) (x : Session) (d : List ℕ) (room slot : ℕ) (h : x.at
   whole : 2 ≤ length s - x.at
   whole = omega arith
 
-  unopened : (first : ℕ) → (first ≡ 0x50) ⊎ (first ≡ 0x51) → b ≡ first → x.active ≡ false → perform s x d room ≡ rejected out_of_place x.at x
+  unopened : (first : ℕ) → (first ≡ 0x50) ⊎ (first ≡ 0x51) → b ≡ first → x.active ≡ false → perform s x d room ≡ rejected (rejection_of out_of_place) x.at x
   unfolding perform decode command_code allowed_here is_command command_size only_in_snapshot opens
   unopened first (inl f) q e = rw (lt-leb (length s) x.at begun, q, f, e)
   unopened first (inr f) q e = rw (lt-leb (length s) x.at begun, q, f, e)
@@ -51,7 +51,7 @@ module _ (s : List ℕ) (x : Session) (d : List ℕ) (room slot : ℕ) (h : x.at
     perform-51 : b ≡ 0x51 → perform s x d room ≡ restore_state x (x.at + 2) slot d
     perform-51 q = performs s x (decoded (CommandOf.Restore slot) (x.at + 2)) (CommandOf.Restore slot) (sym (command-51 q)) refl d room
 
-    stores : b ≡ 0x50 → Sound x → slot < slots → checkpoints_size ≤ length d → (perform s x d room ≡ accepted ReplyOf.Silent (x.at + 2) x.state) × (restore slot (perform_checkpoints s x d) ≡ record { outcome = OutcomeOf.Accepted; state = x.state })
+    stores : b ≡ 0x50 → Sound x → slot < slots → checkpoints_size ≤ length d → (perform s x d room ≡ accepted ReplyOf.Silent (x.at + 2) x.state) × (restore slot (perform_checkpoints s x d) ≡ record { outcome = Ok tt; state = x.state })
     unfolding store_state store
     stores q p l r =
         let t = p.passes e in
@@ -66,13 +66,12 @@ module _ (s : List ℕ) (x : Session) (d : List ℕ) (room slot : ℕ) (h : x.at
       keeps s x (decoded (CommandOf.Restore slot) (x.at + 2)) (CommandOf.Restore slot) (sym (command-51 q)) refl d,
     )
 
-    above : (first : ℕ) → (first ≡ 0x50) ⊎ (first ≡ 0x51) → b ≡ first → Sound x → slots ≤ slot → perform s x d room ≡ rejected no_checkpoint x.at x
-    unfolding store_state restore_state
-    above first (inl f) q p l =
-        perform-50 (q ∙ f) ∙ rw (← (rw (p.passes e).checked at (no_slot x.state slot d l).0))
+    above : (first : ℕ) → (first ≡ 0x50) ⊎ (first ≡ 0x51) → b ≡ first → Sound x → slots ≤ slot → perform s x d room ≡ rejected (rejection_of no_checkpoint) x.at x
+    unfolding store_state restore_state store
+    above first (inl f) q p l = perform-50 (q ∙ f) ∙ rw (no_slot x.state slot d l, (p.passes e).checked)
     above first (inr f) q p l = perform-51 (q ∙ f) ∙ rw (none_above slot d l)
 
-    empty : b ≡ 0x51 → (restore_code slot d ≡ 0 → ⊥) → perform s x d room ≡ rejected no_checkpoint x.at x
+    empty : b ≡ 0x51 → (restore_code slot d ≡ 0 → ⊥) → perform s x d room ≡ rejected (rejection_of no_checkpoint) x.at x
     unfolding restore_state
     empty q n = perform-51 q ∙ rw (restored-none slot d n)
 

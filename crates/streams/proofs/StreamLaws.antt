@@ -12,12 +12,10 @@ use lib.IntN.{ℤ}
 use lib.ListN.{length, length-drop, length-replicate, take, drop, get_or, replicate}
 use lib.Ieee.{Float}
 use lib.Seq.{sets, sets-eq, take_at, take-length}
-use Rattle.state.specs.Rejections.{unless, outcome, answer, input_too_long, truncated, by_outcome, by_answer}
+use Rattle.state.specs.Rejections.{unless, outcome, answer, input_too_long, truncated, by_outcome, by_answer, rejection_of, Outcome}
 use Rattle.state.specs.States.{check}
 use Rattle.state.specs.Switching.{switch_to_even}
 use Rattle.state.specs.declared.State.{State}
-use Rattle.state.specs.declared.Outcome.{Outcome}
-use Rattle.state.specs.declared.Outcome.TheVariants as OutcomeOf
 use Rattle.integers.proofs.Tests.{cond-elim}
 use Rattle.state.proofs.Switches.{checks-kept, switch-accepted}
 use Rattle.ets.specs.Steps.{step, step_code, residual_of, missing, missing_code}
@@ -25,10 +23,7 @@ use Rattle.forecasts.specs.Forecasts.{max_horizon, forecast_to, forecast_code, f
 use Rattle.ets.proofs.Kept.{reading-kept, reading-typed, missing-kept}
 use Rattle.weights.specs.Weights.{variance}
 use Rattle.weights.specs.declared.Variance.{Variance}
-use Rattle.weights.specs.declared.Variance.TheVariants as VarianceOf
 use Rattle.relative_errors.specs.Relative.{relative_variance}
-use Rattle.relative_errors.specs.declared.RelativeVariance.{RelativeVariance}
-use Rattle.relative_errors.specs.declared.RelativeVariance.TheVariants as RelativeOf
 use Rattle.layout.specs.Bytes.{AreBytes}
 use Rattle.layout.specs.CommandTable.{command_size, opens}
 use Rattle.snapshot.specs.Snapshots.{open_code, open_offset, decoded, read}
@@ -49,7 +44,6 @@ use Rattle.decoding.proofs.DecodingLaws.{inside, whole-command}
 use Rattle.lines.specs.Lines.{fields_bytes, line_of, write_line, line_bytes}
 use Rattle.replies.specs.declared.Reply.{Reply}
 use Rattle.replies.specs.declared.Reply.TheVariants as ReplyOf
-use Rattle.lines.specs.declared.Line.TheVariants as LineOf
 use Rattle.lines.proofs.LineLaws.{saved_count, line-most, long-enough}
 use Rattle.replies.specs.Replies.{is_last}
 use Rattle.actions.specs.Actions.{by_variance, by_relative}
@@ -59,23 +53,25 @@ use Rattle.streams.specs.Promises.{Passes, Sound, Holding, EndsOnce, Answers, Op
 use Rattle.commands.specs.declared.Session.{Session}
 use Rattle.commands.specs.declared.Performed.{Performed}
 use Rattle.commands.proofs.CommandLaws.{snapshot-most, save-facts, performs, keeps, opened-rejected}
+use Rattle.std.specs.Prelude.{Result, Ok, Err}
+use Rattle.state.specs.declared.Rejection.{Rejection}
 
 module _ (P : Performed → Type 0) where
-  on-outcome : (code : ℕ) (a : Performed) (r : ℕ → Performed) → (code ≡ 0 → P a) → ((n : ℕ) → P (r n)) → P (by_outcome (outcome code) a r)
+  on-outcome : (code : ℕ) (a : Performed) (r : Rejection → Performed) → (code ≡ 0 → P a) → ((n : Rejection) → P (r n)) → P (by_outcome (outcome code) a r)
   on-outcome zero a r f g = f refl
-  on-outcome (suc code) a r f g = rw (eqb-suc-zero code) (g (suc code))
+  on-outcome (suc code) a r f g = rw (eqb-suc-zero code) (g (rejection_of (suc code)))
 
-  on-answer : (code : ℕ) (v : ℤ) (a : ℤ → Performed) (r : ℕ → Performed) → (code ≡ 0 → P (a v)) → ((n : ℕ) → P (r n)) → P (by_answer (answer code v) a r)
+  on-answer : (code : ℕ) (v : ℤ) (a : ℤ → Performed) (r : Rejection → Performed) → (code ≡ 0 → P (a v)) → ((n : Rejection) → P (r n)) → P (by_answer (answer code v) a r)
   on-answer zero v a r f g = f refl
-  on-answer (suc code) v a r f g = rw (eqb-suc-zero code) (g (suc code))
+  on-answer (suc code) v a r f g = rw (eqb-suc-zero code) (g (rejection_of (suc code)))
 
-  on-variance : (v : Variance) (a : ℕ → ℕ → Performed) (r : ℕ → Performed) → ((high low : ℕ) → P (a high low)) → ((n : ℕ) → P (r n)) → P (by_variance v a r)
-  on-variance (VarianceOf.Accepted high low) a r f g = f high low
-  on-variance (VarianceOf.Rejected n) a r f g = g n
+  on-variance : (v : Result Variance Rejection) (a : ℕ → ℕ → Performed) (r : Rejection → Performed) → ((high low : ℕ) → P (a high low)) → ((n : Rejection) → P (r n)) → P (by_variance v a r)
+  on-variance (Ok v) a r f g = f v.high v.low
+  on-variance (Err n) a r f g = g n
 
-  on-relative : (v : RelativeVariance) (a : Float → Performed) (r : ℕ → Performed) → ((w : Float) → P (a w)) → ((n : ℕ) → P (r n)) → P (by_relative v a r)
-  on-relative (RelativeOf.Accepted w) a r f g = f w
-  on-relative (RelativeOf.Rejected n) a r f g = g n
+  on-relative : (v : Result Float Rejection) (a : Float → Performed) (r : Rejection → Performed) → ((w : Float) → P (a w)) → ((n : Rejection) → P (r n)) → P (by_relative v a r)
+  on-relative (Ok w) a r f g = f w
+  on-relative (Err n) a r f g = g n
 
 -- ---- a state that is open passes its checks
 pub start-sound : Sound start
@@ -112,9 +108,9 @@ pub record Goes (s : List ℕ) (x : Session) (cs buffer : List ℕ) (p : Perform
   pub line : line_of p.reply buffer ≡ line_after p
 
 module _ (s : List ℕ) (x : Session) (cs d : List ℕ) where
-  stays : (n offset : ℕ) → Goes s x cs d (rejected n offset x)
+  stays : (r : Rejection) (offset : ℕ) → Goes s x cs d (rejected r offset x)
   unfolding line_after line_of fields_bytes
-  stays n offset = record { moves = λ e. absurd (true≢false e); sound = λ b c p. p; saved = omega arith; line = refl }
+  stays r offset = record { moves = λ e. absurd (true≢false e); sound = λ b c p. p; saved = omega arith; line = refl }
 
   goes : (r : Reply) (to : ℕ) (t : State) → x.at < to → to ≤ length s → (AreBytes s → Holding cs → Sound x → Passes t) → saved_count r ≤ snapshot_room → line_of r d ≡ line_of r (encoded t) → Goes s x cs d (accepted r to t)
   unfolding line_after
@@ -284,7 +280,7 @@ line-by-line s x cs =
     (ap (λ (l : List ℕ). line_after (next s x cs) ++ l) (text-until (is_last (next s x cs).reply) (answers_from s (next s x cs).session (perform_checkpoints s x cs))))
 
 line-written : (s : List ℕ) (x : Session) (cs : List ℕ) (room : ℕ) → line_room ≤ room
-    → write_line (next s x cs).reply (encoded (next s x cs).session.state) room ≡ LineOf.Bytes (length (line_after (next s x cs)))
+    → write_line (next s x cs).reply (encoded (next s x cs).session.state) room ≡ Ok (length (line_after (next s x cs)))
 unfolding line_after
 line-written s x cs room h =
     let r = (next s x cs).reply in
@@ -327,23 +323,24 @@ module _ (s : List ℕ) (x : Session) (cs : List ℕ) (room : ℕ) (o : (next_co
   whole z = rw (opened, z)
 
   otherwise : (open_code (drop x.at s) ≡ 0 → ⊥) → (perform s x cs room).session ≡ x
-  otherwise h = ap (λ (p : Performed). p.session) (opened ∙ opened-rejected s x (open_code (drop x.at s)) refl h)
+  otherwise h = ap (λ (p : Performed). p.session) (opened ∙ opened-rejected s x h)
 
   names : perform_checkpoints s x cs ≡ cs
   names = keeps s x (next_command s x) CommandOf.Open refl o cs
 
-  none : open_code (drop x.at s) ≡ truncated → length (drop x.at s) ≤ open_offset (drop x.at s) → (perform s x cs room).reply ≡ ReplyOf.Rejected truncated (length s)
+  none : open_code (drop x.at s) ≡ truncated → length (drop x.at s) ≤ open_offset (drop x.at s) → (perform s x cs room).reply ≡ ReplyOf.Rejected (rejection_of truncated) (length s)
   none z h =
       let k = inside s x.at x.active x.state.model o in
       let e : rest_offset s x.at ≡ length s = omega (arith, length-drop x.at s, (offsets (drop x.at s)).within) in
-      ap (λ (p : Performed). p.reply) (opened ∙ opened-rejected s x 4 (sym z) (λ q. omega arith))
-      ∙ ap (λ (n : ℕ). ReplyOf.Rejected 4 n) e
+      ap (λ (p : Performed). p.reply) (opened ∙ opened-rejected s x (λ q. omega arith))
+      ∙ ap (λ (n : ℕ). ReplyOf.Rejected (rejection_of n) (rest_offset s x.at)) z
+      ∙ ap (λ (n : ℕ). ReplyOf.Rejected (rejection_of truncated) n) e
 
 pub openings : Openings
 openings =
     record { replaced = λ s x cs room o. record { whole = whole s x cs room o; otherwise = otherwise s x cs room o; names = names s x cs room o } }
 
-long : (s : List ℕ) → input_limit < length s → answers s ≡ rejected input_too_long 0 start ∷ []
+long : (s : List ℕ) → input_limit < length s → answers s ≡ rejected (rejection_of input_too_long) 0 start ∷ []
 unfolding answers admit
 long s h = rw (lt-leb (length s) input_limit h)
 
@@ -366,10 +363,10 @@ pub written_next : (s : List ℕ) (x : Session) (cs : List ℕ) (room : ℕ) →
 unfolding write_next
 written_next s x cs room = refl
 
-pub last-admitted : (s : List ℕ) → admit s ≡ OutcomeOf.Accepted → last_reply (answers s) ≡ last_reply (answers_from s start no_checkpoints)
+pub last-admitted : (s : List ℕ) → admit s ≡ Ok tt → last_reply (answers s) ≡ last_reply (answers_from s start no_checkpoints)
 unfolding answers
 last-admitted s e = rw e
 
-pub last-rejected : (s : List ℕ) (n : ℕ) → admit s ≡ OutcomeOf.Rejected n → last_reply (answers s) ≡ ReplyOf.Rejected n 0
+pub last-rejected : (s : List ℕ) (r : Rejection) → admit s ≡ Err r → last_reply (answers s) ≡ ReplyOf.Rejected r 0
 unfolding answers last_reply final_reply
-last-rejected s n e = rw e
+last-rejected s r e = rw e

@@ -1,11 +1,10 @@
 -- The promises about whole streams.
-use Rattle.std.specs.Prelude.{ℕ, ◌+◌, ◌≤◌, ◌<◌, ◌≡◌, true, false, cond, ◌⊎◌, List, [], ◌∷◌, ◌++◌, length, drop, get_or}
+use Rattle.std.specs.Prelude.{ℕ, ◌+◌, ◌≤◌, ◌<◌, ◌≡◌, true, false, cond, ◌⊎◌, List, [], ◌∷◌, ◌++◌, length, drop, get_or, Ok}
 use Rattle.models.specs.Models.{has_relative_errors}
-use Rattle.state.specs.Rejections.{input_too_long, out_of_place, truncated, no_checkpoint}
+use Rattle.state.specs.Rejections.{input_too_long, out_of_place, truncated, no_checkpoint, rejection_of}
 use Rattle.state.specs.States.{Typed, check}
 use Rattle.state.specs.Switching.{switched}
 use Rattle.state.specs.declared.State.{State}
-use Rattle.state.specs.declared.Outcome.TheVariants as OutcomeOf
 use Rattle.layout.specs.Bytes.{AreBytes}
 use Rattle.snapshot.specs.Snapshots.{open_code, open_offset, decoded}
 use Rattle.saving.specs.Encoding.{encoded}
@@ -13,7 +12,6 @@ use Rattle.checkpoints.specs.Checkpoints.{slots, checkpoints_size, restore_code,
 use Rattle.decoding.specs.declared.Command.TheVariants as CommandOf
 use Rattle.lines.specs.Lines.{line_of, write_line}
 use Rattle.replies.specs.declared.Reply.TheVariants as ReplyOf
-use Rattle.lines.specs.declared.Line.TheVariants as LineOf
 use Rattle.replies.specs.Replies.{is_last}
 use Rattle.commands.specs.Commands.{start, accepted, rejected, next_command, perform, perform_checkpoints}
 use Rattle.streams.specs.Stream.{input_limit, line_room, next, answers_from, answers, line_after, text_of, text}
@@ -51,7 +49,7 @@ pub record Answers : Type 0 where
   pub lines : (s : List ℕ) (x : Session) (d : List ℕ)
       → text_of (answers_from s x d) ≡ line_after (next s x d) ++ cond (is_last (next s x d).reply) [] (text_of (answers_from s (next s x d).session (perform_checkpoints s x d)))
   pub written : (s : List ℕ) (x : Session) (d : List ℕ) (room : ℕ) → line_room ≤ room
-      → write_line (next s x d).reply (encoded (next s x d).session.state) room ≡ LineOf.Bytes (length (line_after (next s x d)))
+      → write_line (next s x d).reply (encoded (next s x d).session.state) room ≡ Ok (length (line_after (next s x d)))
   pub ends : (s : List ℕ) → EndsOnce (answers s)
 
 -- a new group replaces the state only when all of it is accepted, and empties no name
@@ -65,15 +63,15 @@ pub record Openings : Type 0 where
 
 -- X: 0 for refusal 1, and the input's length where refusal 4 finds no command begun
 pub record Offsets : Type 0 where
-  pub long : (s : List ℕ) → input_limit < length s → answers s ≡ rejected input_too_long 0 start ∷ []
+  pub long : (s : List ℕ) → input_limit < length s → answers s ≡ rejected (rejection_of input_too_long) 0 start ∷ []
   pub none : (s : List ℕ) (x : Session) (d : List ℕ) (room : ℕ) → (next_command s x).command ≡ CommandOf.Open
       → open_code (drop x.at s) ≡ truncated → length (drop x.at s) ≤ open_offset (drop x.at s)
-      → (perform s x d room).reply ≡ ReplyOf.Rejected truncated (length s)
+      → (perform s x d room).reply ≡ ReplyOf.Rejected (rejection_of truncated) (length s)
 
 -- document 02, W-211: where no state is open 14 is refusal 3; else its answer has no line, and the state that stands is the switched one
 pub record Switches : Type 0 where
   pub unopened : (s : List ℕ) (x : Session) (d : List ℕ) (room : ℕ) → x.at < length s → get_or s x.at 0 ≡ 0x14 → x.active ≡ false
-      → perform s x d room ≡ rejected out_of_place x.at x
+      → perform s x d room ≡ rejected (rejection_of out_of_place) x.at x
   pub opened : (s : List ℕ) (x : Session) (d : List ℕ) (room : ℕ) → x.at < length s → get_or s x.at 0 ≡ 0x14 → x.active ≡ true → Sound x
       → perform s x d room ≡ accepted ReplyOf.Silent (x.at + 1) (switched x.state)
   pub line : (saved : List ℕ) → line_of ReplyOf.Silent saved ≡ []
@@ -81,20 +79,20 @@ pub record Switches : Type 0 where
 -- document 02, W-205: 31 is refusal 3 for a model with multiplicative errors, 32 for one with additive errors, whether or not their operands are there
 pub record ErrorKinds : Type 0 where
   pub additive : (s : List ℕ) (x : Session) (d : List ℕ) (room : ℕ) → x.at < length s → get_or s x.at 0 ≡ 0x31 → has_relative_errors x.state.model ≡ true
-      → perform s x d room ≡ rejected out_of_place x.at x
+      → perform s x d room ≡ rejected (rejection_of out_of_place) x.at x
   pub relative : (s : List ℕ) (x : Session) (d : List ℕ) (room : ℕ) → x.at < length s → get_or s x.at 0 ≡ 0x32 → has_relative_errors x.state.model ≡ false
-      → perform s x d room ≡ rejected out_of_place x.at x
+      → perform s x d room ≡ rejected (rejection_of out_of_place) x.at x
 
 -- document 02, W-209: where no state is open 50 and 51 are refusal 3, whatever byte follows and whatever a name holds; else 21 for a byte above 3 and for a name that holds nothing
 -- when 51 comes. Neither has a line. 50 leaves the state, and its name then holds it; 51 brings back what its name holds, and every name holds what it held
 pub record Checkpoints (s : List ℕ) (x : Session) (d : List ℕ) (room slot : ℕ) : Type 0 where
-  pub unopened : (first : ℕ) → (first ≡ 0x50) ⊎ (first ≡ 0x51) → get_or s x.at 0 ≡ first → x.active ≡ false → perform s x d room ≡ rejected out_of_place x.at x
+  pub unopened : (first : ℕ) → (first ≡ 0x50) ⊎ (first ≡ 0x51) → get_or s x.at 0 ≡ first → x.active ≡ false → perform s x d room ≡ rejected (rejection_of out_of_place) x.at x
   pub stores : get_or s x.at 0 ≡ 0x50 → x.active ≡ true → Sound x → slot < slots → checkpoints_size ≤ length d
-      → (perform s x d room ≡ accepted ReplyOf.Silent (x.at + 2) x.state) × (restore slot (perform_checkpoints s x d) ≡ record { outcome = OutcomeOf.Accepted; state = x.state })
+      → (perform s x d room ≡ accepted ReplyOf.Silent (x.at + 2) x.state) × (restore slot (perform_checkpoints s x d) ≡ record { outcome = Ok tt; state = x.state })
   pub restores : get_or s x.at 0 ≡ 0x51 → x.active ≡ true → restore_code slot d ≡ 0
       → (perform s x d room ≡ accepted ReplyOf.Silent (x.at + 2) (restore slot d).state) × (perform_checkpoints s x d ≡ d)
-  pub above : (first : ℕ) → (first ≡ 0x50) ⊎ (first ≡ 0x51) → get_or s x.at 0 ≡ first → x.active ≡ true → Sound x → slots ≤ slot → perform s x d room ≡ rejected no_checkpoint x.at x
-  pub empty : get_or s x.at 0 ≡ 0x51 → x.active ≡ true → (restore_code slot d ≡ 0 → ⊥) → perform s x d room ≡ rejected no_checkpoint x.at x
+  pub above : (first : ℕ) → (first ≡ 0x50) ⊎ (first ≡ 0x51) → get_or s x.at 0 ≡ first → x.active ≡ true → Sound x → slots ≤ slot → perform s x d room ≡ rejected (rejection_of no_checkpoint) x.at x
+  pub empty : get_or s x.at 0 ≡ 0x51 → x.active ≡ true → (restore_code slot d ≡ 0 → ⊥) → perform s x d room ≡ rejected (rejection_of no_checkpoint) x.at x
 
 abbrev pub CheckpointLaws : Type 0
 CheckpointLaws = (s : List ℕ) (x : Session) (d : List ℕ) (room slot : ℕ) → x.at + 2 ≤ length s → get_or s (x.at + 1) 0 ≡ slot → Checkpoints s x d room slot

@@ -1,8 +1,6 @@
 -- Document 01, "The program's lines": a whole stream, its answers and its text.
-use Rattle.std.specs.Prelude.{ℕ, zero, suc, ◌+◌, ◌*◌, ◌-◌, cond, List, [], ◌∷◌, ◌++◌, leb, length}
-use Rattle.state.specs.Rejections.{unless, outcome, input_too_long}
-use Rattle.state.specs.declared.Outcome.{Outcome}
-use Rattle.state.specs.declared.Outcome.TheVariants as OutcomeOf
+use Rattle.std.specs.Prelude.{ℕ, zero, suc, ◌+◌, ◌*◌, ◌-◌, cond, List, [], ◌∷◌, ◌++◌, leb, length, Ok, Err}
+use Rattle.state.specs.Rejections.{unless, outcome, input_too_long, Outcome}
 use Rattle.layout.specs.Layout.{size_of}
 use Rattle.saving.specs.Encoding.{encoded}
 use Rattle.checkpoints.specs.Checkpoints.{no_checkpoints}
@@ -48,8 +46,8 @@ answers_from s x checkpoints = answers_in (suc (length s - x.at)) s x checkpoint
 
 -- the whole stream's answers; no name holds anything at first
 abbrev pub answers_of : Outcome → List ℕ → List Performed
-answers_of OutcomeOf.Accepted s = answers_from s start no_checkpoints
-answers_of (OutcomeOf.Rejected code) s = rejected code 0 start ∷ []
+answers_of (Ok u) s = answers_from s start no_checkpoints
+answers_of (Err r) s = rejected r 0 start ∷ []
 
 unfoldable pub answers : List ℕ → List Performed
 answers s = answers_of (admit s) s

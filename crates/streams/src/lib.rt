@@ -9,8 +9,8 @@ ghost use Rattle.streams.specs.Stream.{admit, write_next, next_bytes};
 
 use commands::{Performed, Session, perform};
 use layout::MAX_SIZE;
-use lines::{Line, write_line};
-use state::{INPUT_TOO_LONG, Outcome};
+use lines::write_line;
+use state::{Rejection, unless};
 
 // The longest input of the program.
 pub const INPUT_LIMIT: usize = 65536;
@@ -22,17 +22,14 @@ pub const MAX_LINE: usize = 3 + 2 * MAX_SIZE;
 #[derive(Clone, Copy)]
 pub struct Written {
     pub performed: Performed,
-    pub line: Line,
+    pub line: Result<usize, Rejection>,
 }
 
 // Whether the program takes a stream: tested once, before its first command.
-pub fn admit(stream: &[u8]) -> Outcome
+pub fn admit(stream: &[u8]) -> Result<(), Rejection>
     ensures { result ≡ admit stream.now }
 {
-    if INPUT_LIMIT < stream.len() {
-        return Outcome::Rejected(INPUT_TOO_LONG);
-    }
-    Outcome::Accepted
+    unless(stream.len() <= INPUT_LIMIT, Rejection::InputTooLong)
 }
 
 // One command of the program's stream, and its line at the start of a buffer.

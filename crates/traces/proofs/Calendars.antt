@@ -18,19 +18,20 @@ use Rattle.forecasts.specs.Calendars.{forecast_by, forecast_list_by, forecast_co
 use Rattle.forecasts.proofs.CalendarLaws.{list-length-by}
 use Rattle.traces.specs.Calls.{ReadingOn, MissingOn, BatchOn, ForecastOn, ForecastsOn, result}
 use Rattle.traces.specs.Scores.{squares}
+use Rattle.forecasts.proofs.Codes.{code-step-on, code-missing-on, code-forecast-on, code-forecasts-on}
 use Rattle.traces.proofs.Works.{listed, Works, reads, misses, takes, walks-one, walks-all}
 
 module _ (s : State) (k : Calendar) where
   pub reading-on : (y : ℤ) → Works s (squares s (ReadingOn k y)) (result s (ReadingOn k y))
   unfolding result squares step_on
   reading-on y =
-      rw (answer-code (step_code_on k s y) (residual_by k s y))
+      rw (answer-code (step_code_on k s y) (residual_by k s y) (code-step-on s k y))
       (reads k y (step_code_on k s y) (λ z. let f = step-on-facts k s y z in (listed f.calendar, f.plain)))
 
   pub missing-on : Works s (squares s (MissingOn k)) (result s (MissingOn k))
   unfolding result squares missing_on
   missing-on =
-      rw (outcome-code (missing_code_on k s))
+      rw (outcome-code (missing_code_on k s) (code-missing-on s k))
       (misses k (missing_code_on k s) (λ z. let f = missing-on-facts k s z in (listed f.calendar, f.plain)))
 
   -- the first `taken` cells are the levels
@@ -52,7 +53,7 @@ module _ (s : State) (k : Calendar) where
 
     forecast-rejection : answer_code (forecast_on k s h) ≡ forecast_code_on k s h
     unfolding forecast_on
-    forecast-rejection = answer-code (forecast_code_on k s h) (forecast_by k s h)
+    forecast-rejection = answer-code (forecast_code_on k s h) (forecast_by k s h) (code-forecast-on s k h)
 
     pub forecast-on : Works s (squares s (ForecastOn k h)) (result s (ForecastOn k h))
     unfolding result squares
@@ -68,5 +69,5 @@ module _ (s : State) (k : Calendar) where
     pub forecasts-on : (cells : List ℤ) → Works s (squares s (ForecastsOn k h cells)) (result s (ForecastsOn k h cells))
     unfolding result squares forecasts_on
     forecasts-on cells =
-        rw (outcome-code (forecasts_code_on k s h (length cells)))
+        rw (outcome-code (forecasts_code_on k s h (length cells)) (code-forecasts-on s k h (length cells)))
         (walks-all k h (forecasts_code_on k s h (length cells)) (take h (forecast_cells_on k s h cells)) (forecasts-numbers cells))

@@ -8,10 +8,9 @@ use borrow.Author.Tests.{eqb-true, eqb-false}
 use lib.Dec.{eqb}
 use lib.ListN.{length}
 use lib.Seq.{sets}
-use Rattle.state.specs.Rejections.{outcome_code, no_checkpoint, unless}
+use Rattle.state.specs.Rejections.{accepting, outcome_code, no_checkpoint, rejection_of, unless}
 use Rattle.state.specs.States.{Typed}
 use Rattle.state.specs.declared.State.{State}
-use Rattle.state.specs.declared.Outcome.TheVariants as OutcomeOf
 use Rattle.layout.specs.Bytes.{AreBytes}
 use Rattle.snapshot.specs.Snapshots.{open_code, decoded, read}
 use Rattle.snapshot.specs.declared.Opened.{Opened}
@@ -25,13 +24,17 @@ use Rattle.traces.specs.Laws.{Passing}
 use Rattle.traces.specs.Operations.{Standing, standing_of, Operation, on_state, Store, Restore, Open, operate, AllPassing, answered_by, is_rejected, OperationLaws}
 use Rattle.traces.proofs.Works.{by_code}
 use Rattle.traces.proofs.Lists.{call-laws}
+use Rattle.std.specs.Prelude.{Ok}
 
 -- the rejection of going back is that of its answer
 restored-code : (slot : ℕ) (d : List ℕ) → outcome_code (restore slot d).outcome ≡ restore_code slot d
-unfolding restore restore_code
+unfolding restore restore_code rejection_of
 restored-code slot d = go (is_held slot d)
   where
-    go : (b : Bool) → outcome_code (cond (eqb (unless b no_checkpoint) 0) (record { outcome = OutcomeOf.Accepted; state = decoded (slot_in d slot) }) nothing_kept).outcome ≡ unless b no_checkpoint
+    back : Opened
+    back = record { outcome = Ok tt; state = decoded (slot_in d slot) }
+
+    go : (b : Bool) → outcome_code (accepting (unless b no_checkpoint) back (λ (n : ℕ). nothing_kept)).outcome ≡ unless b no_checkpoint
     go true = refl
     go false = refl
 
@@ -45,6 +48,7 @@ module _ {A : Type 0} (G : State → A → Type 0) where
   Held d kept = (slot : ℕ) → restore_code slot d ≡ 0 → G (restore slot d).state (kept slot)
 
   pub held_first : (kept : ℕ → A) → Held no_checkpoints kept
+  unfolding rejection_of
   held_first kept slot z =
       let e : restore_code slot no_checkpoints ≡ no_checkpoint = sym (restored-code slot no_checkpoints) ∙ ap (λ (r : Opened). outcome_code r.outcome) (nothing-at-first slot) in
       absurd (omega arith)

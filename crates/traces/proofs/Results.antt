@@ -27,17 +27,18 @@ use Rattle.in_place.specs.InPlace.{room_code, rewrite_code, in_place_step_code, 
 use Rattle.traces.specs.Calls.{Slice, slice_of, state_in, Call, Reading, Missing, Switch, Batch, Forecast, Forecasts, ReadingOn, MissingOn, BatchOn, ForecastOn, ForecastsOn, InPlaceReading, InPlaceMissing, InPlaceSwitch, InPlaceForecast, result}
 use Rattle.traces.specs.Scores.{squares}
 use Rattle.traces.proofs.Slices.{accepted-holds, untouched-holds, rewritten-holds}
+use Rattle.forecasts.proofs.Codes.{code-step, code-missing, code-forecast, code-forecasts}
 use Rattle.traces.proofs.Works.{by_code, unlisted, Works, reads, misses, switches, takes, forecasts-one, forecasts-all}
 use Rattle.traces.proofs.Calendars.{reading-on, missing-on, batch-on, forecast-on, forecasts-on}
 
 -- ---- handed in directly
 pub reading-code : (s : State) (y : ℤ) → answer_code (step s y).residual ≡ step_code s y
 unfolding step
-reading-code s y = answer-code (step_code s y) (residual_of s y)
+reading-code s y = answer-code (step_code s y) (residual_of s y) (code-step s no_changes y)
 
 pub missed-code : (s : State) → outcome_code (missing s).outcome ≡ missing_code s
 unfolding missing
-missed-code s = outcome-code (missing_code s)
+missed-code s = outcome-code (missing_code s) (code-missing s)
 
 direct-reading : (s : State) (y : ℤ) → Works s (squares s (Reading y)) (result s (Reading y))
 unfolding result squares step
@@ -68,7 +69,7 @@ module _ (limit : ℕ) (s : State) (h : ℕ) where
 
   pub forecast-rejection : answer_code (forecast_to limit s h) ≡ forecast_code_to limit s h
   unfolding forecast_to
-  forecast-rejection = answer-code (forecast_code_to limit s h) (forecast_of s h)
+  forecast-rejection = answer-code (forecast_code_to limit s h) (forecast_of s h) (code-forecast s limit h)
 
   direct-forecast : Works s (squares s (Forecast limit h)) (result s (Forecast limit h))
   unfolding result squares
@@ -82,7 +83,7 @@ module _ (limit : ℕ) (s : State) (h : ℕ) where
   direct-forecasts : (cells : List ℤ) → Works s (squares s (Forecasts limit h cells)) (result s (Forecasts limit h cells))
   unfolding result squares forecasts_to
   direct-forecasts cells =
-      rw (outcome-code (forecasts_code_to limit s h (length cells)))
+      rw (outcome-code (forecasts_code_to limit s h (length cells)) (code-forecasts s limit h (length cells)))
       (forecasts-all h (forecasts_code_to limit s h (length cells)) (take h (forecast_cells_to limit s h cells)) (forecasts-numbers cells))
 
 -- ---- in place

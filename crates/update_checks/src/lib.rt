@@ -2,30 +2,15 @@
 #![tactic(auto)]
 
 ghost use Rattle.std.specs.Prelude.{◌≡◌, ◌&&◌};
-ghost use Rattle.state.specs.Rejections.{unless, ◌then◌, bad_reading};
+ghost use Rattle.state.specs.Rejections.{unless, ◌then◌, outcome, bad_reading};
 ghost use Rattle.state.specs.Fixed.{in_range, is_reading};
 ghost use Rattle.ets.specs.Steps.{count_code};
-ghost use Rattle.ets.specs.Updates.{not_updated, gains_ok, ranges_ok, numbers_code, advance_code};
+ghost use Rattle.ets.specs.Updates.{gains_ok, ranges_ok, numbers_code, advance_code};
 
 use ets::Update;
 use models::ONE;
 use ranges::{count_ok, in_range, is_reading};
-use state::{
-    BAD_PARAMETER, BAD_POSITION, BAD_READING, BAD_VALUE, COUNT_FULL, MAX_COUNT, Numbers, first,
-    unless,
-};
-
-pub fn not_updated(code: u8) -> Update
-    ensures { result ≡ not_updated code }
-{
-    Update {
-        code,
-        level: 0,
-        trend: 0,
-        season: 0,
-        residual: 0,
-    }
-}
+use state::{MAX_COUNT, Numbers, Rejection, unless};
 
 pub fn stays(u: Update) -> bool
     ensures { result ≡ (in_range u.level && in_range u.trend && in_range u.season) }
@@ -33,17 +18,18 @@ pub fn stays(u: Update) -> bool
     in_range(u.level) & in_range(u.trend) & in_range(u.season)
 }
 
-pub fn count_code(count: u64) -> u8
-    ensures { result ≡ count_code count }
+pub fn check_count(count: u64) -> Result<(), Rejection>
+    ensures { result ≡ outcome (count_code count) }
 {
-    unless(count != MAX_COUNT, COUNT_FULL)
+    unless(count != MAX_COUNT, Rejection::CountFull)
 }
 
 // 13, then 14.
-pub fn early_code(count: u64, y: i32) -> u8
-    ensures { result ≡ (unless (is_reading y) bad_reading then count_code count) }
+pub fn check_early(count: u64, y: i32) -> Result<(), Rejection>
+    ensures { result ≡ outcome (unless (is_reading y) bad_reading then count_code count) }
 {
-    first(unless(is_reading(y), BAD_READING), count_code(count))
+    unless(is_reading(y), Rejection::BadReading)?;
+    check_count(count)
 }
 
 fn gains_ok(n: Numbers) -> bool
@@ -58,25 +44,21 @@ fn ranges_ok(n: Numbers) -> bool
     in_range(n.level) & in_range(n.trend) & in_range(n.season)
 }
 
-// What rejects the numbers of a reading, or 0.
-pub fn numbers_code(n: Numbers) -> u8
-    ensures { result ≡ numbers_code n }
+// What rejects the numbers of a reading.
+pub fn check_numbers(n: Numbers) -> Result<(), Rejection>
+    ensures { result ≡ outcome (numbers_code n) }
 {
-    let code = first(
-        unless(gains_ok(n), BAD_PARAMETER),
-        unless(ranges_ok(n), BAD_VALUE),
-    );
-    first(code, unless(count_ok(n.count), BAD_POSITION))
+    unless(gains_ok(n), Rejection::BadParameter)?;
+    unless(ranges_ok(n), Rejection::BadValue)?;
+    unless(count_ok(n.count), Rejection::BadPosition)
 }
 
 // The same of the numbers that a missing reading has a use for: no gain and no season value is among them.
-pub fn advance_code(n: Numbers) -> u8
-    ensures { result ≡ advance_code n }
+pub fn check_advance(n: Numbers) -> Result<(), Rejection>
+    ensures { result ≡ outcome (advance_code n) }
 {
     let ranges = in_range(n.level) & in_range(n.trend);
-    let values = first(
-        unless(n.phi <= ONE, BAD_PARAMETER),
-        unless(ranges, BAD_VALUE),
-    );
-    first(values, unless(count_ok(n.count), BAD_POSITION))
+    unless(n.phi <= ONE, Rejection::BadParameter)?;
+    unless(ranges, Rejection::BadValue)?;
+    unless(count_ok(n.count), Rejection::BadPosition)
 }

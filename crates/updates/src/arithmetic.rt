@@ -10,8 +10,8 @@ ghost use Rattle.ets.specs.Bounds.{NumbersIn, AdvanceIn, TermsIn, ScoreIn};
 use ets::{Terms, Update};
 use ranges::in_range;
 use rounding::round;
-use state::{LEAVES_RANGE, Numbers, Score, first, unless};
-use update_checks::{count_code, early_code, not_updated, stays};
+use state::{Numbers, Rejection, Score, unless};
+use update_checks::{check_count, check_early, stays};
 
 // R(a × x): the share that a parameter gives of x.
 pub fn share(even: bool, a: u32, x: i64) -> i64
@@ -88,7 +88,6 @@ fn corrections(t: Terms, e: i64) -> Update
     ensures { result ≡ corrections t e }
 {
     Update {
-        code: 0,
         level: t.level + t.damped + share(t.even, t.alpha, e),
         trend: t.damped + share(t.even, t.beta, e),
         season: t.season + share(t.even, t.gamma, e),
@@ -97,21 +96,15 @@ fn corrections(t: Terms, e: i64) -> Update
 }
 
 // A reading: its rejection (13, 14, 15), or the numbers after it.
-pub fn reading_update(even: bool, n: Numbers, y: i32) -> Update
+pub fn reading_update(even: bool, n: Numbers, y: i32) -> Result<Update, Rejection>
     requires { NumbersIn n }
     ensures { result ≡ reading_update even n y }
 {
-    let code = early_code(n.count, y);
-    if code != 0 {
-        return not_updated(code);
-    }
+    check_early(n.count, y)?;
     let t = terms_at(even, n);
     let u = corrections(t, residual(t, y));
-    if stays(u) {
-        u
-    } else {
-        not_updated(LEAVES_RANGE)
-    }
+    unless(stays(u), Rejection::LeavesRange)?;
+    Ok(u)
 }
 
 // The numbers that the model itself expects next: a missing reading takes them.
@@ -121,7 +114,6 @@ fn advance(even: bool, n: Numbers) -> Update
 {
     let damped = share(even, n.phi, n.trend);
     Update {
-        code: 0,
         level: n.level + damped,
         trend: damped,
         season: n.season,
@@ -130,16 +122,12 @@ fn advance(even: bool, n: Numbers) -> Update
 }
 
 // A missing reading: its rejection (14, 15), or the numbers after it.
-pub fn missing_update(even: bool, n: Numbers) -> Update
+pub fn missing_update(even: bool, n: Numbers) -> Result<Update, Rejection>
     requires { AdvanceIn n }
     ensures { result ≡ missing_update even n }
 {
+    check_count(n.count)?;
     let u = advance(even, n);
-    let full = count_code(n.count);
-    let out = unless(in_range(u.level), LEAVES_RANGE);
-    let code = first(full, out);
-    if code != 0 {
-        return not_updated(code);
-    }
-    u
+    unless(in_range(u.level), Rejection::LeavesRange)?;
+    Ok(u)
 }

@@ -11,28 +11,22 @@ ghost use Rattle.ets.specs.Updates.{update, update_missing, update_score};
 use arithmetic::{missing_update, reading_update, score_after};
 use ets::Update;
 use ranges::{count_ok, is_residual, score_ok};
-use state::{Numbers, Score};
-use update_checks::{advance_code, not_updated, numbers_code};
+use state::{Numbers, Rejection, Score};
+use update_checks::{check_advance, check_numbers};
 
 // A reading on the rounding rule and the numbers of a state: what it makes of them, or the rejection.
-pub fn update(even: bool, n: Numbers, y: i32) -> Update
+pub fn update(even: bool, n: Numbers, y: i32) -> Result<Update, Rejection>
     ensures { result ≡ update even n y }
 {
-    let code = numbers_code(n);
-    if code != 0 {
-        return not_updated(code);
-    }
+    check_numbers(n)?;
     reading_update(even, n, y)
 }
 
 // A missing reading on the rounding rule and the numbers of a state.
-pub fn update_missing(even: bool, n: Numbers) -> Update
+pub fn update_missing(even: bool, n: Numbers) -> Result<Update, Rejection>
     ensures { result ≡ update_missing even n }
 {
-    let code = advance_code(n);
-    if code != 0 {
-        return not_updated(code);
-    }
+    check_advance(n)?;
     missing_update(even, n)
 }
 

@@ -1,14 +1,17 @@
 // A reading and a missing reading on a state by value.
 ghost use Rattle.std.specs.Prelude.{◌≡◌, ◌<◌};
 ghost use Rattle.state.specs.Fixed.{max_count};
+ghost use Rattle.models.specs.Models.{ties_to_even};
+ghost use Rattle.state.specs.Rejections.{accepting, rejects};
+ghost use Rattle.state.specs.States.{check};
 ghost use Rattle.ets.specs.Steps.{step, missing};
-ghost use Rattle.ets.specs.Updates.{numbers_of, stored};
+ghost use Rattle.ets.specs.Updates.{missing_update, numbers_of, reading_update, stored};
 
 use super::arithmetic::{missing_update, reading_update, score_after};
 use checks::check;
 use ets::{Missed, Stepped, Update};
 use models::ties_to_even;
-use state::{Answer, Numbers, Outcome, Score, State};
+use state::{Numbers, Rejection, Score, State};
 use turns::next_index;
 
 // The numbers of a state that a step reads.
@@ -30,25 +33,6 @@ fn numbers_of(s: State) -> Numbers
     }
 }
 
-// A rejected call hands back the state as it came.
-fn rejected_step(s: State, n: u8) -> Stepped
-    ensures { result ≡ record { state = s; residual = Answer.Rejected n } }
-{
-    Stepped {
-        state: s,
-        residual: Answer::Rejected(n),
-    }
-}
-
-fn rejected_missing(s: State, n: u8) -> Missed
-    ensures { result ≡ record { state = s; outcome = Outcome.Rejected n } }
-{
-    Missed {
-        state: s,
-        outcome: Outcome::Rejected(n),
-    }
-}
-
 // The state one step on, with an update's numbers and a score.
 fn store(s: State, u: Update, score: Score) -> State
     requires { (s.index < 48) × (s.count < max_count) }
@@ -66,41 +50,51 @@ fn store(s: State, u: Update, score: Score) -> State
     next
 }
 
+// The checks of a state, then the update that a reading makes.
+fn try_step(s: State, y: i32) -> Result<Update, Rejection>
+    ensures { result ≡ accepting (check s) (reading_update (ties_to_even s.model) (numbers_of s) y) rejects }
+{
+    check(s)?;
+    reading_update(ties_to_even(s.model), numbers_of(s), y)
+}
+
+// A rejected call hands back the state as it came.
 pub fn step(s: State, y: i32) -> Stepped
     ensures { result ≡ step s y }
 {
-    let n = check(s);
-    if n != 0 {
-        return rejected_step(s, n);
+    match try_step(s, y) {
+        Ok(u) => {
+            let score = score_after(ties_to_even(s.model), s.score, u.residual);
+            Stepped {
+                state: store(s, u, score),
+                residual: Ok(u.residual),
+            }
+        }
+        Err(rejection) => Stepped {
+            state: s,
+            residual: Err(rejection),
+        },
     }
-    let even = ties_to_even(s.model);
-    let u = reading_update(even, numbers_of(s), y);
-    let k = u.code;
-    if k != 0 {
-        return rejected_step(s, k);
-    }
-    let e = u.residual;
-    let score = score_after(even, s.score, e);
-    Stepped {
-        state: store(s, u, score),
-        residual: Answer::Accepted(e),
-    }
+}
+
+fn try_missing(s: State) -> Result<Update, Rejection>
+    ensures { result ≡ accepting (check s) (missing_update (ties_to_even s.model) (numbers_of s)) rejects }
+{
+    check(s)?;
+    missing_update(ties_to_even(s.model), numbers_of(s))
 }
 
 pub fn missing(s: State) -> Missed
     ensures { result ≡ missing s }
 {
-    let n = check(s);
-    if n != 0 {
-        return rejected_missing(s, n);
-    }
-    let u = missing_update(ties_to_even(s.model), numbers_of(s));
-    let k = u.code;
-    if k != 0 {
-        return rejected_missing(s, k);
-    }
-    Missed {
-        state: store(s, u, s.score),
-        outcome: Outcome::Accepted,
+    match try_missing(s) {
+        Ok(u) => Missed {
+            state: store(s, u, s.score),
+            outcome: Ok(()),
+        },
+        Err(rejection) => Missed {
+            state: s,
+            outcome: Err(rejection),
+        },
     }
 }

@@ -2,8 +2,6 @@
 // A record is a kind, a length of 32 bits with the low byte first, and a stream; kind 1 is played cut after each byte.
 #![tactic(auto)]
 
-ghost use Rattle.std.specs.Prelude.{◌<◌};
-
 use readers::read_full;
 use std::fs::File;
 use std::io::{ErrorKind, Stdout};
@@ -13,14 +11,10 @@ use streams::INPUT_LIMIT;
 // More records than any file of streams has, so that the program ends.
 const MAX_RECORDS: usize = 100000;
 
-fn wide(b: u8) -> usize
-    ensures { result < 256 }
-{
-    b as usize
-}
-
-fn length_of(h: [u8; 5]) -> usize {
-    wide(h[1]) + 256 * wide(h[2]) + 65536 * wide(h[3]) + 16777216 * wide(h[4])
+// The next bytes of the file, where it has so many.
+fn next_bytes<const N: usize>(from: &mut File) -> Option<[u8; N]> {
+    let mut bytes = [0u8; N];
+    (read_full(from, &mut bytes) == N).then_some(bytes)
 }
 
 fn play_cut(out: &mut Stdout, s: &[u8]) {
@@ -29,30 +23,24 @@ fn play_cut(out: &mut Stdout, s: &[u8]) {
     }
 }
 
-// Plays a stream of n bytes, which it reads into the buffer, and answers whether there was one.
-fn play_stream(from: &mut File, out: &mut Stdout, n: usize, cut: bool, buffer: &mut [u8]) -> bool {
-    if buffer.len() < n {
-        return false;
+// Plays a stream that fills the buffer, where there is one.
+fn play_stream(from: &mut File, out: &mut Stdout, cut: bool, buffer: &mut [u8]) -> Option<()> {
+    if read_full(from, buffer) < buffer.len() {
+        return None;
     }
-    if read_full(from, &mut buffer[..n]) < n {
-        return false;
-    }
-    let s = &buffer[..n];
     if cut {
-        play_cut(out, s);
+        play_cut(out, buffer);
     }
-    console::play(out, s);
-    true
+    console::play(out, buffer);
+    Some(())
 }
 
-// Plays one record, and answers whether there was one.
-fn play_next(from: &mut File, out: &mut Stdout) -> bool {
-    let mut header = [0u8; 5];
-    if read_full(from, &mut header) < 5 {
-        return false;
-    }
+// Plays one record, where there is one.
+fn play_next(from: &mut File, out: &mut Stdout) -> Option<()> {
+    let [kind] = next_bytes::<1>(from)?;
+    let n = u32::from_le_bytes(next_bytes(from)?) as usize;
     let mut buffer = [0u8; INPUT_LIMIT + 1];
-    play_stream(from, out, length_of(header), header[0] == 1, &mut buffer)
+    play_stream(from, out, kind == 1, buffer.get_mut(..n)?)
 }
 
 // Without an argument, or where its file does not open, the program ends with an error.
@@ -63,7 +51,7 @@ fn main(rt: HostRuntime) -> io::Result<()> {
     let mut from = File::open(&rt, path)?;
     let mut out = rt.stdout();
     for _ in 0..MAX_RECORDS {
-        if !play_next(&mut from, &mut out) {
+        if play_next(&mut from, &mut out).is_none() {
             break;
         }
     }

@@ -7,20 +7,19 @@ mod sums;
 pub mod variances;
 
 ghost use Rattle.std.specs.Prelude.{◌≡◌};
+ghost use Rattle.state.specs.Rejections.{outcome};
 ghost use Rattle.weights.specs.Weights.{errors_code};
 
 use checks::check;
 use horizons::{MAX_HORIZON, horizon_ok};
 use models::errors_are;
-use state::{BAD_HORIZON, OUT_OF_PLACE, State, first, unless};
+use state::{Rejection, State, unless};
 
-// What rejects a call for one kind of errors, multiplicative (relative) or additive, or 0.
-pub fn errors_code(relative: bool, s: State, h: u32) -> u8
-    ensures { result ≡ errors_code relative s h }
+// What rejects a call for one kind of errors, multiplicative (relative) or additive.
+pub fn check_errors(relative: bool, s: State, h: u32) -> Result<(), Rejection>
+    ensures { result ≡ outcome (errors_code relative s h) }
 {
-    let place = first(
-        check(s),
-        unless(errors_are(relative, s.model), OUT_OF_PLACE),
-    );
-    first(place, unless(horizon_ok(MAX_HORIZON, h), BAD_HORIZON))
+    check(s)?;
+    unless(errors_are(relative, s.model), Rejection::OutOfPlace)?;
+    unless(horizon_ok(MAX_HORIZON, h), Rejection::BadHorizon)
 }

@@ -1,11 +1,11 @@
 // The arithmetic of a weight and its product with σ².
 ghost use Rattle.std.specs.Prelude.{◌+◌, ◌*◌, ◌/◌, ◌%◌, ◌≤◌, ◌≡◌, cond, eqb, ltb};
 ghost use Rattle.state.specs.Fixed.{share_nat, word_size};
-ghost use Rattle.state.specs.Valid.{Valid};
 ghost use Rattle.weights.specs.Weights.{coefficient, weight_of};
 ghost use Rattle.weights.specs.Groups.{group_count};
 ghost use Rattle.weights.specs.Facts.{At};
 
+use horizons::Request;
 use models::{has_season, ties_to_even, trend_of};
 use rounding::round;
 use state::State;
@@ -51,8 +51,8 @@ fn trend_term(even: bool, trend: u8, b: u32, j: u32, p: u64) -> u64
 }
 
 // m, or 1 without season.
-pub fn group_count(s: State) -> u8
-    ensures { result ≡ group_count s }
+pub fn group_count(s: &State) -> u8
+    ensures { result ≡ group_count s.now }
 {
     if has_season(s.model) { s.period } else { 1 }
 }
@@ -74,29 +74,30 @@ fn season_term(g: u32, remainder: u32) -> u64
 }
 
 // The coefficient C of j, from P and the remainder of j; without season G is 0, so that any remainder serves.
-pub fn coefficient(s: State, even: bool, trend: u8, j: u32, p: u64, k: u32) -> u64
-    requires { Valid s × At s even trend j p k }
-    ensures value { result ≡ coefficient s j }
+pub fn coefficient(r: Request<'_>, even: bool, trend: u8, j: u32, p: u64, k: u32) -> u64
+    requires { At r.state.now even trend j p k }
+    ensures value { result ≡ coefficient r.entry.state.now j }
     ensures bound { result ≤ 33685504 }
 {
+    let s = r.state;
     (s.alpha as u64) + trend_term(even, trend, s.beta, j, p) + season_term(s.gamma, k)
 }
 
 // The weight of a horizon that is not rejected.
-pub fn weight_of(s: State, h: u32) -> u64
-    requires { Valid s × (1 ≤ h) × (h ≤ 512) }
-    ensures { result ≡ weight_of s h }
+pub fn weight_of(r: Request<'_>) -> u64
+    ensures { result ≡ weight_of r.entry.state.now r.entry.horizon }
 {
+    let s = r.state;
     let even = ties_to_even(s.model);
     let trend = trend_of(s.model);
     let m = group_count(s);
     let mut sum: u64 = 0x1_0000_0000;
     let mut p: u64 = 0;
     let mut k: u32 = 0;
-    for j in 1..h {
+    for j in 1..r.horizon {
         p = next_damping(even, trend, s.phi, p);
         k = next_remainder(k, m);
-        let c = coefficient(s, even, trend, j, p, k);
+        let c = coefficient(r, even, trend, j, p, k);
         sum = sum + c * c;
     }
     sum
@@ -104,12 +105,12 @@ pub fn weight_of(s: State, h: u32) -> u64
 
 // A weight times σ² in two words, from two products of 64 bits.
 pub fn product(w: u64, sigma2: u32) -> Variance
-    ensures { result ≡ Variance.Accepted (w * sigma2 / word_size) (w * sigma2 % word_size) }
+    ensures { result ≡ record { high = w * sigma2 / word_size; low = w * sigma2 % word_size } }
 {
     let v = sigma2 as u64;
     let low = (w % 0x1_0000_0000) * v;
     let mid = (w >> 32) * v + (low >> 32);
-    Variance::Accepted {
+    Variance {
         high: mid >> 32,
         low: (mid % 0x1_0000_0000) * 0x1_0000_0000 + low % 0x1_0000_0000,
     }

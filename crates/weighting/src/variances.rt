@@ -2,29 +2,30 @@
 ghost use Rattle.std.specs.Prelude.{◌≡◌};
 ghost use Rattle.weights.specs.Weights.{weight, variance};
 
-use super::errors_code;
+use super::check_errors;
 use super::sums::{product, weight_of};
-use state::State;
-use weights::{Variance, Weight};
+use horizons::Request;
+use state::{Rejection, State};
+use weights::Variance;
 
-pub fn weight(s: State, h: u32) -> Weight
+pub fn weight(s: State, h: u32) -> Result<u64, Rejection>
     ensures { result ≡ weight s h }
 {
-    let n = errors_code(false, s, h);
-    if n == 0 {
-        Weight::Accepted(weight_of(s, h))
-    } else {
-        Weight::Rejected(n)
-    }
+    check_errors(false, s, h)?;
+    let r = Request {
+        state: &s,
+        horizon: h,
+    };
+    Ok(weight_of(r))
 }
 
-pub fn variance(s: State, h: u32, sigma2: u32) -> Variance
+pub fn variance(s: State, h: u32, sigma2: u32) -> Result<Variance, Rejection>
     ensures { result ≡ variance s h sigma2 }
 {
-    let n = errors_code(false, s, h);
-    if n == 0 {
-        product(weight_of(s, h), sigma2)
-    } else {
-        Variance::Rejected(n)
-    }
+    check_errors(false, s, h)?;
+    let r = Request {
+        state: &s,
+        horizon: h,
+    };
+    Ok(product(weight_of(r), sigma2))
 }

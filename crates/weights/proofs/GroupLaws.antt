@@ -8,7 +8,7 @@ use native.Mathlib.Nat.{mod-lt}
 use native.Mathlib.Decide.{dec_le, ℕ_discrete}
 use lib.Dec.{eqb}
 use lib.ListN.{length, get_or, set, drop, replicate, length-append, length-set, length-replicate, get_or-replicate, get_or-append}
-use lib.Seq.{ext_get_or, drop-cons, set_at, set-append_left, drop_at, length_front, length-take-le, get_or_at, get_or-set_same, get_or-set_other, take_at}
+use lib.Seq.{ext_get_or, set-append_left, drop_at, length_front, length-take-le, get_or_at, get_or-set_same, get_or-set_other, take_at}
 use borrow.Author.Tests.{eq-eqb, ne_eqb}
 use Rattle.integers.specs.Totals.{total}
 use Rattle.models.specs.Models.{has_season}
@@ -122,16 +122,6 @@ cleared s {m} {found} {cells} e l h =
   where
     rest : drop (group_count s) cells ≡ drop (group_count s) found
     rest = rw (h, ← e) (drop_at (replicate m 0) (drop m found) m (length-replicate {A = ℕ} m 0))
-
--- one more cell set to 0
-pub cleared-next : (i : ℕ) (cells : List ℕ) → i < length cells → set (replicate i 0 ++ drop i cells) i 0 ≡ replicate (suc i) 0 ++ drop (suc i) cells
-cleared-next i cells h =
-    rw (drop-cons cells i 0)
-    (set_at (replicate i 0) (get_or cells i 0) (drop (suc i) cells) 0 i (length-replicate i 0) ∙ sym (go i (drop (suc i) cells)))
-  where
-    go : (i : ℕ) (l : List ℕ) → replicate (suc i) 0 ++ l ≡ replicate i 0 ++ 0 ∷ l
-    go zero l = refl
-    go (suc i) l = ap {B = List ℕ} (λ t. 0 ∷ t) (go i l)
 
 -- ---- their total
 

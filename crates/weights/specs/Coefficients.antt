@@ -1,8 +1,7 @@
 -- Document 01, "Forecast and variance": the coefficients C for all j up to a horizon, in lent cells.
 use Rattle.std.specs.Prelude.{ℕ, zero, suc, List, [], ◌∷◌, ◌++◌, length, drop}
-use Rattle.state.specs.Rejections.{accepting, outcome}
+use Rattle.state.specs.Rejections.{accepting, outcome, Outcome}
 use Rattle.state.specs.declared.State.{State}
-use Rattle.state.specs.declared.Outcome.{Outcome}
 use Rattle.forecasts.specs.Forecasts.{forecasts_code}
 use Rattle.weights.specs.Weights.{coefficient}
 

@@ -1,9 +1,8 @@
 -- Document 02, W-210: the squares of C by j modulo m.
 use Rattle.std.specs.Prelude.{ℕ, zero, suc, ◌+◌, ◌-◌, ◌*◌, ◌%◌, cond, List, [], ◌∷◌, ◌++◌, eqb, leb, length, drop}
 use Rattle.models.specs.Models.{has_season}
-use Rattle.state.specs.Rejections.{unless, ◌then◌, accepting, outcome, short_buffer}
+use Rattle.state.specs.Rejections.{unless, ◌then◌, accepting, outcome, short_buffer, Outcome}
 use Rattle.state.specs.declared.State.{State}
-use Rattle.state.specs.declared.Outcome.{Outcome}
 use Rattle.weights.specs.Weights.{coefficient, class_one_code}
 
 -- m groups; without season there is one

@@ -4,15 +4,9 @@
 
 pub mod promises;
 
+// In 2^32ths of a square reading unit, as two words.
 #[derive(Clone, Copy)]
-pub enum Weight {
-    Accepted(u64),
-    Rejected(u8),
-}
-
-// In 2^32ths of a square reading unit.
-#[derive(Clone, Copy)]
-pub enum Variance {
-    Accepted { high: u64, low: u64 },
-    Rejected(u8),
+pub struct Variance {
+    pub high: u64,
+    pub low: u64,
 }

@@ -1,33 +1,37 @@
-use mathlib.Core.Path.{◌≡◌, refl, sym, ◌∙◌}
-use borrow.Author.Tests.{ne_eqb}
-use Rattle.slices.specs.Slices.{in_place_code}
-use Rattle.bench_api.proofs.Opened.{code_is, state-is}
+-- `bench_api::bench_relative_variance` meets its contract: a rejected call leaves the lent number as found.
+use Prim.Native.Nat.{ℕ}
 use lib.ListN.{length}
-use Rattle.relative_errors.specs.Relative.{relative_variance}
+use mathlib.Core.Path.{◌≡◌, refl, sym, ap, ◌∙◌}
+use Rattle.std.specs.Prelude.{Result, Ok, Err, Float}
+use Rattle.state.specs.Rejections.{code_in, ◌then◌}
+use Rattle.state.specs.declared.Rejection.{Rejection}
 use Rattle.snapshot.specs.Snapshots.{decoded}
-use Rattle.bench_api.specs.Snapshots.{in_place_relative_code, in_place_relative_value, in_place_relative_cells}
+use Rattle.slices.specs.Slices.{in_place_code}
+use Rattle.slices.proofs.Codes.{code-slice}
+use Rattle.relative_errors.specs.Relative.{relative_variance, answer_code, answer_value}
+use Rattle.bench_api.specs.Snapshots.{in_place_relative_code, in_place_relative_value}
+use Rattle.bench_api.proofs.Opened.{number-of, accepted, kept}
 use Rattle.bench_api.proofs.bench_relative_variance.Goals as goal
 
-pub returns-then-code-ne0 : goal.returns-then-code-ne0
-unfolding in_place_relative_code in_place_relative_value in_place_relative_cells
-returns-then-code-ne0 c =
-    let k : c.code_of-code.result ≡ in_place_code c.args.snapshot.now = c.code_of-code.ensures ∙ code_is _ _ c.read-opened.ensures in
-    rw (← k, ne_eqb _ _ c.if-code-ne0.true) record { code = refl; number = refl; buffer = refl }
+-- the number of each case
+same : (a : Result Float Rejection) → code_in a ≡ answer_code a
+same (Ok v) = refl
+same (Err r) = refl
 
-pub returns-in-Accepted : goal.returns-in-Accepted
-unfolding in_place_relative_code in_place_relative_value in_place_relative_cells
-returns-in-Accepted c =
-    let k : c.code_of-code.result ≡ in_place_code c.args.snapshot.now = c.code_of-code.ensures ∙ code_is _ _ c.read-opened.ensures in
-    let z : in_place_code c.args.snapshot.now ≡ 0 = sym k ∙ c.if-code-ne0.false in
-    let s = state-is _ _ c.read-opened.ensures z in
-    let f : c.relative_variance.result ≡ relative_variance (decoded c.args.snapshot.now) c.args.horizon c.args.sigma2 (length c.args.thetas.now) = rw s at c.relative_variance.ensures.answer in
-    rw (z, sym f ∙ c.in-Accepted.is) record { code = refl; number = refl; buffer = rw s at c.relative_variance.ensures.buffer }
+pub returns-in-Ok-clause-code : goal.returns-in-Ok-clause-code
+unfolding in_place_relative_code
+returns-in-Ok-clause-code c = let a = accepted (in_place_code c.args.snapshot.now) (relative_variance (decoded c.args.snapshot.now) c.args.horizon c.args.sigma2 (length c.args.thetas.now)) (sym c.in-Ok.is ∙ c.relative_variance.ensures.answer) in rw (a.0, a.1)
 
-pub returns-in-Rejected : goal.returns-in-Rejected
-unfolding in_place_relative_code in_place_relative_value in_place_relative_cells
-returns-in-Rejected c =
-    let k : c.code_of-code.result ≡ in_place_code c.args.snapshot.now = c.code_of-code.ensures ∙ code_is _ _ c.read-opened.ensures in
-    let z : in_place_code c.args.snapshot.now ≡ 0 = sym k ∙ c.if-code-ne0.false in
-    let s = state-is _ _ c.read-opened.ensures z in
-    let f : c.relative_variance.result ≡ relative_variance (decoded c.args.snapshot.now) c.args.horizon c.args.sigma2 (length c.args.thetas.now) = rw s at c.relative_variance.ensures.answer in
-    rw (z, sym f ∙ c.in-Rejected.is) record { code = refl; number = refl; buffer = rw s at c.relative_variance.ensures.buffer }
+pub returns-in-Ok-clause-number : goal.returns-in-Ok-clause-number
+unfolding in_place_relative_value
+returns-in-Ok-clause-number c = let a = accepted (in_place_code c.args.snapshot.now) (relative_variance (decoded c.args.snapshot.now) c.args.horizon c.args.sigma2 (length c.args.thetas.now)) (sym c.in-Ok.is ∙ c.relative_variance.ensures.answer) in rw (a.0, a.1)
+
+pub returns-in-Err-clause-code : goal.returns-in-Err-clause-code
+unfolding in_place_relative_code
+returns-in-Err-clause-code c =
+    c.number.ensures ∙ ap code_in (sym c.in-Err.is ∙ c.relative_variance.ensures.answer) ∙ number-of _ _ (code-slice c.args.snapshot.now)
+    ∙ ap (λ (k : ℕ). in_place_code c.args.snapshot.now then k) (same _)
+
+pub returns-in-Err-clause-number : goal.returns-in-Err-clause-number
+unfolding in_place_relative_value
+returns-in-Err-clause-number c = kept (in_place_code c.args.snapshot.now) (relative_variance (decoded c.args.snapshot.now) c.args.horizon c.args.sigma2 (length c.args.thetas.now)) (λ a. answer_value a c.args.value.now) c.args.value.now (λ e. refl) (sym c.in-Err.is ∙ c.relative_variance.ensures.answer)

@@ -1,24 +1,18 @@
-use mathlib.Core.Path.{◌≡◌, refl, sym, ap, ◌∙◌}
-use borrow.Author.Tests.{ne_eqb}
-use Rattle.slices.specs.Slices.{in_place_code}
-use Rattle.bench_api.proofs.Opened.{code_is, state-is}
-use Rattle.state.specs.Rejections.{outcome_code}
+-- `bench_api::bench_weight_groups` meets its contract.
+use Prim.Native.Nat.{ℕ}
+use mathlib.Core.Path.{ap, ◌∙◌}
+use Rattle.state.specs.Rejections.{outcome_code, ◌then◌}
 use Rattle.state.proofs.Answers.{outcome-code}
+use Rattle.snapshot.specs.Snapshots.{decoded}
+use Rattle.slices.specs.Slices.{in_place_code}
+use Rattle.slices.proofs.Codes.{code-slice}
 use Rattle.weights.specs.Groups.{weight_groups}
-use Rattle.bench_api.specs.Snapshots.{in_place_groups_code, in_place_group_cells}
+use Rattle.bench_api.specs.Snapshots.{in_place_groups_code}
+use Rattle.bench_api.proofs.Opened.{number-of, code-groups}
 use Rattle.bench_api.proofs.bench_weight_groups.Goals as goal
 
-pub returns-then-code-ne0 : goal.returns-then-code-ne0
-unfolding in_place_groups_code in_place_group_cells
-returns-then-code-ne0 c =
-    let k : c.code_of-code.result ≡ in_place_code c.args.snapshot.now = c.code_of-code.ensures ∙ code_is _ _ c.read-opened.ensures in
-    rw (← k, ne_eqb _ _ c.if-code-ne0.true) record { code = refl; buffer = refl }
-
-pub returns : goal.returns
-unfolding in_place_groups_code in_place_group_cells weight_groups
-returns c =
-    let k : c.code_of-code.result ≡ in_place_code c.args.snapshot.now = c.code_of-code.ensures ∙ code_is _ _ c.read-opened.ensures in
-    let z : in_place_code c.args.snapshot.now ≡ 0 = sym k ∙ c.if-code-ne0.false in
-    let s = state-is _ _ c.read-opened.ensures z in
-    rw z
-    record { code = c.code_of.ensures ∙ ap outcome_code (rw s at c.weight_groups.ensures.answer) ∙ outcome-code _; buffer = rw s at c.weight_groups.ensures.buffer }
+pub returns-clause-code : goal.returns-clause-code
+unfolding in_place_groups_code weight_groups
+returns-clause-code c =
+    c.code_of.ensures ∙ ap outcome_code c.weight_groups.ensures.answer ∙ number-of _ _ (code-slice c.args.snapshot.now)
+    ∙ ap (λ (k : ℕ). in_place_code c.args.snapshot.now then k) (outcome-code _ (code-groups (decoded c.args.snapshot.now) c.args.horizon _))

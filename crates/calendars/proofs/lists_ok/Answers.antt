@@ -1,38 +1,42 @@
 -- The loop's invariant: what is left of the lists decides as the lists do.
-use mathlib.Core.Path.{refl, sym, ◌∙◌}
-use lib.ListN.{drop_of_length-le}
-use borrow.Author.Tests.{not-true, not-false}
-use Rattle.calendars.proofs.ListLaws.{first_done, second-done, merged-ok, merged-less}
+use Rattle.std.proofs.Common.{arith, inl, inr, sym, ◌∙◌, length, ◌<◌}
+use borrow.Author.Tests.{ltb-true, ltb-false}
+use Rattle.calendars.proofs.ListLaws.{first-lower, second-lower, in_both, one_done}
 use Rattle.calendars.proofs.lists_ok.Goals as goal
+use Rattle.calendars.proofs.lists_ok.Goals.{in_default, in_default-2}
 
-pub returns-then-ys-b : goal.returns-then-ys-b
-returns-then-ys-b c =
-    let at = c in
-    let e = drop_of_length-le at.args.ys.now c.if-ys-b.true in
-    c.rising_from.ensures ∙ sym (second-done _) ∙ rw e at at.loop-a.invariant
+pub returns-then-not-below_first : goal.returns-then-not-below_first
+returns-then-not-below_first c =
+    let p : 0 < length c.loop-first.first.now = omega (arith, ltb-false) in
+    let q : 0 < length c.loop-first.second.now = omega (arith, ltb-false) in
+    rw (← c.loop-first.invariant, first-lower c.loop-first.first.now c.loop-first.second.now p q c.if-x-y.true, ← c.below_first.ensures, c.if-not-below_first.true)
 
-pub returns-then-not-t : goal.returns-then-not-t
-returns-then-not-t c =
-    let k = c in
-    let e = merged-ok _ _ _ _ k.loop-a-test.true k.if-ys-b.false k.merge-t.ensures in
-    rw (← k.loop-a.invariant, e, not-true k.merge-t.result.rises c.if-not-t.true)
+pub loop-first-preserved-else-not-below_first : goal.loop-first-preserved-else-not-below_first
+loop-first-preserved-else-not-below_first c =
+    let p : 0 < length c.loop-first.first.now = omega (arith, ltb-false) in
+    let q : 0 < length c.loop-first.second.now = omega (arith, ltb-false) in
+    rw (← c.loop-first.invariant, first-lower c.loop-first.first.now c.loop-first.second.now p q c.if-x-y.true, ← c.below_first.ensures, c.if-not-below_first.false)
 
-pub loop-a-smaller : goal.loop-a-smaller
-loop-a-smaller c =
-    let k = c in
-    merged-less _ _ _ _ k.loop-a-test.true k.if-ys-b.false k.merge-t.ensures (not-false _ c.if-not-t.false)
+pub returns-then-not-below_first-2 : goal.returns-then-not-below_first-2
+returns-then-not-below_first-2 c =
+    let p : 0 < length c.loop-first.first.now = omega (arith, ltb-false) in
+    let q : 0 < length c.loop-first.second.now = omega (arith, ltb-false) in
+    rw (← c.loop-first.invariant, second-lower c.loop-first.first.now c.loop-first.second.now p q c.if-y-x.true, ← c.below_first-then-y-x.ensures, c.if-not-below_first-2.true)
 
-pub loop-a-preserved : goal.loop-a-preserved
-loop-a-preserved c =
-    let k = c in
-    let e = merged-ok _ _ _ _ k.loop-a-test.true k.if-ys-b.false k.merge-t.ensures in
-    rw (← k.loop-a.invariant, e, not-false k.merge-t.result.rises c.if-not-t.false)
+pub loop-first-preserved : goal.loop-first-preserved
+loop-first-preserved c =
+    let p : 0 < length c.loop-first.first.now = omega (arith, ltb-false) in
+    let q : 0 < length c.loop-first.second.now = omega (arith, ltb-false) in
+    rw (← c.loop-first.invariant, second-lower c.loop-first.first.now c.loop-first.second.now p q c.if-y-x.true, ← c.below_first-then-y-x.ensures, c.if-not-below_first-2.false)
 
-pub returns : goal.returns
-returns c =
-    let at = c in
-    let e = drop_of_length-le at.args.xs.now c.loop-a-test.false in
-    c.rising_from-2.ensures ∙ sym (first_done _) ∙ rw e at at.loop-a.invariant
+pub returns-else-y-x : goal.returns-else-y-x
+returns-else-y-x c =
+    let p : 0 < length c.loop-first.first.now = omega (arith, ltb-false) in
+    let q : 0 < length c.loop-first.second.now = omega (arith, ltb-false) in
+    sym (in_both _ _ p q (omega arith)) ∙ c.loop-first.invariant
 
-pub loop-a-init : goal.loop-a-init
-loop-a-init c = refl
+pub returns-then-rising : goal.returns-then-rising
+returns-then-rising c =
+    let l = c.loop-first in
+    let e = one_done l.first.now l.second.now (elim c.if-first-lt1.branch [ in_default w ↦ inl w.in_default.len_below | in_default-2 w ↦ inr (omega (arith, ltb-true, ltb-false)) ]) in
+    rw (← l.invariant, e, ← c.rising.ensures, c.if-rising.true, c.rising-then-rising.ensures)

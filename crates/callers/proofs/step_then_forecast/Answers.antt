@@ -1,9 +1,8 @@
 use mathlib.Core.Path.{◌≡◌}
 use Prim.Native.Nat.{ℕ}
 use lib.IntN.{ℤ}
-use Rattle.state.specs.Rejections.{answer_code, answer_value}
+use Rattle.state.specs.Rejections.{answer_code, answer_value, Answer}
 use Rattle.state.specs.declared.State.{State}
-use Rattle.state.specs.declared.Answer.{Answer}
 use Rattle.ets.specs.declared.Stepped.{Stepped}
 use Rattle.ets.specs.Steps.{step}
 use Rattle.forecasts.specs.Forecasts.{forecast}

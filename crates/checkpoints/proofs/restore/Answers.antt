@@ -21,10 +21,10 @@ read_is c =
     let n : at + slot_size - at ≡ slot_size = omega arith in
     c.read-found.ensures ∙ ap read (rw (n, c.slot_at-from.ensures))
 
-pub returns-in-Accepted : goal.returns-in-Accepted
-returns-in-Accepted c =
-    found _ _ c.if-slot-ge-SLOTS.false c.if-checkpoints-lt-CHECKPOINTS_SIZE.false c.read-found.result (read_is (goal.at.returns-in-Accepted c).After-read-found) c.in-Accepted.is
+pub returns-then-is_ok : goal.returns-then-is_ok
+returns-then-is_ok c =
+    found _ _ c.if-slot-ge-SLOTS.false c.if-checkpoints-lt-CHECKPOINTS_SIZE.false c.read-found.result (read_is (goal.at.returns-then-is_ok c).After-read-found) (sym c.is_ok.ensures.value ∙ c.if-is_ok.true)
 
-pub returns-in-Rejected : goal.returns-in-Rejected
-returns-in-Rejected c =
-    c.nothing_kept-in-Rejected.ensures ∙ found_none _ _ c.if-slot-ge-SLOTS.false c.if-checkpoints-lt-CHECKPOINTS_SIZE.false c.read-found.result (read_is (goal.at.returns-in-Rejected c).After-read-found) _ c.in-Rejected.is
+pub returns-else-is_ok : goal.returns-else-is_ok
+returns-else-is_ok c =
+    c.nothing_kept-else-is_ok.ensures ∙ found_none _ _ c.if-slot-ge-SLOTS.false c.if-checkpoints-lt-CHECKPOINTS_SIZE.false c.read-found.result (read_is (goal.at.returns-else-is_ok c).After-read-found) (sym c.is_ok.ensures.value ∙ c.if-is_ok.false)

@@ -1,25 +1,30 @@
-use Prim.Native.Nat.{ℕ}
-use mathlib.Core.Path.{◌≡◌, sym, ap, ◌∙◌}
-use mathlib.Core.Bool.{true, false}
+use mathlib.Core.Path.{◌≡◌, sym}
+use mathlib.Core.Bool.{Bool, true, false, cond}
 use mir.Facts.{to_z-of_z}
 use Rattle.calendars.specs.Calendars.{calendar_of}
-use Rattle.state.specs.Rejections.{◌then◌, bad_calendar}
-use Rattle.state.specs.States.{check}
-use Rattle.ets.proofs.CalendarLaws.{lists-code}
+use Rattle.ets.specs.Calendars.{step_on}
+use Rattle.ets.proofs.CalendarLaws.{lists-code, placed}
 use Rattle.clock.proofs.StepLaws.{first-turn, step-built, step-unfollowed}
 use Rattle.clock_changes.proofs.step_on.Goals as goal
+use Rattle.clock_changes.proofs.step_on.Goals.{After-is_ok}
+use Rattle.std.specs.Prelude.{is_ok}
 
 pub returns-then-not-calendar_ok : goal.returns-then-not-calendar_ok
 returns-then-not-calendar_ok c =
     let k = calendar_of c.args.skipped.now c.args.repeated.now in
     let l = lists-code c.args.s.period k c.calendar_ok.result false c.calendar_ok.ensures c.if-not-calendar_ok.true in
-    let code : c.first.result ≡ (check c.args.s then bad_calendar) = c.first.ensures ∙ ap (λ (n : ℕ). n then bad_calendar) c.check.ensures in
-    rw code (sym (step-unfollowed k c.args.s l c.args.y))
+    rw c.calendar_rejection.ensures (sym (step-unfollowed k c.args.s l c.args.y))
 
--- the lists give the turn
-pub returns : goal.returns
-returns c =
+-- the lists give the turn, and b whether it was taken
+built : (c : After-is_ok) (b : Bool) → b ≡ is_ok c.step-done.result.residual → record { state = placed c.step-done.result.state (cond b c.walk-t.result.next c.args.s.index); residual = c.step-done.result.residual } ≡ step_on (calendar_of c.args.skipped.now c.args.repeated.now) c.args.s c.args.y
+built c b =
     let k = calendar_of c.args.skipped.now c.args.repeated.now in
     let l = lists-code c.args.s.period k c.calendar_ok.result true c.calendar_ok.ensures c.if-not-calendar_ok.false in
     let t = first-turn k c.args.s.period c.args.s.index c.args.s.count c.start.result c.walk-t.result l c.start.ensures c.walk-t.ensures in
-    step-built k c.args.s l c.args.y c.walk-t.result.used c.walk-t.result.next c.by_answer.result c.step-done.result t.used t.next (rw (to_z-of_z c.ranges.y) at c.step-done.ensures) c.by_answer.ensures
+    step-built k c.args.s l c.args.y c.walk-t.result.used c.walk-t.result.next c.step-done.result b t.used t.next (rw (to_z-of_z c.ranges.y) at c.step-done.ensures)
+
+pub returns-then-is_ok : goal.returns-then-is_ok
+returns-then-is_ok c = built (goal.at.returns-then-is_ok c).After-is_ok true c.if-is_ok.ensures.value
+
+pub returns-else-is_ok : goal.returns-else-is_ok
+returns-else-is_ok c = built (goal.at.returns-else-is_ok c).After-is_ok false c.if-is_ok.ensures.value

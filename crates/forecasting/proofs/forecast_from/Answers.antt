@@ -1,5 +1,5 @@
 use Prim.Native.Nat.{ℕ, ◌≤◌}
-use mathlib.Core.Path.{◌≡◌, sym, ◌∙◌}
+use mathlib.Core.Path.{◌≡◌}
 use mathlib.Core.Bool.{◌&&◌}
 use native.Mathlib.Omega.{arith}
 use lib.Dec.{leb}
@@ -7,20 +7,21 @@ use lib.IntN.{ℤ, ◌+ℤ◌}
 use mir.Syntax.{w64}
 use mir.Val.{SFits, to_z, of_z}
 use mir.Facts.{to_z-of_z}
-use borrow.Author.Tests.{eq-eqb, ne_eqb, leb-true}
+use borrow.Author.Tests.{leb-true}
 use Rattle.integers.specs.Bounds.{Within}
 use Rattle.integers.proofs.Difference.{back}
 use Rattle.integers.proofs.Bounds.{within-add, within-fits}
 use Rattle.state.specs.Fixed.{in_range}
 use Rattle.integers.proofs.Tests.{both}
+use Rattle.state.proofs.Answers.{check-passes, check-rejects}
 use Rattle.state.proofs.Tests.{unless-zero, unless-then}
 use Rattle.state.proofs.Passing.{in-range}
 use Rattle.forecasts.specs.Forecasts.{forecast_from_code, forecast_from}
 use Rattle.forecasting.proofs.forecast_from.Goals as goal
-use Rattle.forecasting.proofs.forecast_from.Goals.{After-from_code-n, Else-n-ne0, After-trend_line}
+use Rattle.forecasting.proofs.forecast_from.Goals.{In_ok-check_from, After-trend_line}
 
-code : (c : After-from_code-n) → forecast_from_code c.args.level c.args.phi c.args.trend c.args.season c.args.h ≡ c.from_code-n.result
-code c = sym (rw (to_z-of_z c.ranges.level, to_z-of_z c.ranges.trend, to_z-of_z c.ranges.season) at c.from_code-n.ensures)
+accepted : (c : In_ok-check_from) → forecast_from_code c.args.level c.args.phi c.args.trend c.args.season c.args.h ≡ 0
+accepted c = check-passes _ (rw (to_z-of_z c.ranges.level, to_z-of_z c.ranges.trend, to_z-of_z c.ranges.season) at c.in_ok-check_from.ensures)
 
 -- what the tests let pass
 record Ready (l : ℤ) (F : ℕ) (b v : ℤ) (h : ℕ) : Type 0 where
@@ -44,19 +45,21 @@ ready level phi trend season h e =
       horizon = leb-true h 512 (both (leb 1 h) (leb h 512) (unless-zero _ 10 y.1)).1;
     }
 
-ready_at : (c : Else-n-ne0) → Ready c.args.level c.args.phi c.args.trend c.args.season c.args.h
-ready_at c = ready c.args.level c.args.phi c.args.trend c.args.season c.args.h (code c.before ∙ c.if-n-ne0.false)
+ready_at : (c : In_ok-check_from) → Ready c.args.level c.args.phi c.args.trend c.args.season c.args.h
+ready_at c = ready c.args.level c.args.phi c.args.trend c.args.season c.args.h (accepted c)
 
 sum_fits : (c : After-trend_line) → SFits w64 (c.trend_line.result +ℤ c.args.season)
 sum_fits c = within-fits w64 (within-add c.trend_line.ensures.bound (ready_at c.before).season) (omega arith)
 
-pub returns-then-n-ne0 : goal.returns-then-n-ne0
+pub returns-in_err-check_from : goal.returns-in_err-check_from
 unfolding forecast_from
-returns-then-n-ne0 c = rw (code (goal.at.returns-then-n-ne0 c).After-from_code-n, ne_eqb _ _ c.if-n-ne0.true)
+returns-in_err-check_from c =
+    let e = rw (to_z-of_z c.ranges.level, to_z-of_z c.ranges.trend, to_z-of_z c.ranges.season) at c.in_err-check_from.ensures in
+    check-rejects _ _ e c.from_residual.ensures.1
 
 pub trend_line-requires : goal.trend_line-requires
 trend_line-requires c =
-    let r = ready_at (goal.at.trend_line-requires c).Else-n-ne0 in
+    let r = ready_at (goal.at.trend_line-requires c).In_ok-check_from in
     rw (to_z-of_z c.ranges.level, to_z-of_z c.ranges.trend) (r.phi, r.level, r.trend, r.horizon)
 
 pub overflow_add-result : goal.overflow_add-result
@@ -68,4 +71,4 @@ unfolding forecast_from
 returns c =
     let f = sum_fits (goal.at.returns c).After-trend_line in
     let m : to_z w64 (of_z w64 (to_z w64 (of_z w64 c.trend_line.result) +ℤ to_z w64 (of_z w64 c.args.season))) ≡ c.trend_line.result +ℤ c.args.season = rw (back w64 c.trend_line.result c.trend_line.type_inv, to_z-of_z c.ranges.season) (to_z-of_z f) in
-    rw (code (goal.at.returns c).After-from_code-n, eq-eqb _ _ c.if-n-ne0.false, m, c.trend_line.ensures.value, to_z-of_z c.ranges.level, to_z-of_z c.ranges.trend)
+    rw (accepted (goal.at.returns c).In_ok-check_from, m, c.trend_line.ensures.value, to_z-of_z c.ranges.level, to_z-of_z c.ranges.trend)

@@ -1,8 +1,9 @@
 use Prim.Native.Nat.{◌≤◌}
-use mathlib.Core.Path.{◌≡◌, sym, ◌∙◌}
+use mathlib.Core.Path.{◌≡◌}
 use native.Mathlib.Omega.{arith}
 use lib.ListN.{length}
-use borrow.Author.Tests.{ne_eqb, leb-true}
+use borrow.Author.Tests.{leb-true}
+use Rattle.state.proofs.Answers.{check-passes, check-rejects, check-keeps}
 use Rattle.state.proofs.Passing.{valid}
 use Rattle.ets.proofs.CalendarLaws.{unchanged}
 use Rattle.state.proofs.Tests.{then-zero, unless-zero}
@@ -10,33 +11,35 @@ use Rattle.forecasts.specs.Forecasts.{forecasts_code_to, forecasts_to, forecast_
 use Rattle.forecasts.proofs.ForecastLaws.{Ready, forecast-ready}
 use Rattle.forecasts.proofs.CalendarLaws.{list-unchanged}
 use Rattle.forecasting.proofs.forecasts_to.Goals as goal
-use Rattle.forecasting.proofs.forecasts_to.Goals.{After-first-n, Else-n-ne0}
+use Rattle.forecasting.proofs.forecasts_to.Goals.{In_ok-check_forecasts_to}
 
-code : (c : After-first-n) → c.first-n.result ≡ forecasts_code_to c.args.limit c.args.s c.args.h (length c.args.values.now)
+accepted : (c : In_ok-check_forecasts_to) → forecasts_code_to c.args.limit c.args.s c.args.h (length c.args.values.now) ≡ 0
 unfolding forecasts_code_to
-code c = rw (c.first-n.ensures, c.forecast_code_to.ensures, c.unless-room.ensures)
+accepted c = check-passes _ c.in_ok-check_forecasts_to.ensures
 
-ready : (c : Else-n-ne0) → Ready c.args.limit c.args.s c.args.h × (c.args.h ≤ length c.args.values.now)
+ready : (c : In_ok-check_forecasts_to) → Ready c.args.limit c.args.s c.args.h × (c.args.h ≤ length c.args.values.now)
 unfolding forecasts_code_to
 ready c =
-    let z = then-zero _ _ (sym (code c.before) ∙ c.if-n-ne0.false) in
+    let z = then-zero _ _ (accepted c) in
     (forecast-ready _ _ _ z.0, leb-true _ _ (unless-zero _ 11 z.1))
 
-pub returns-then-n-ne0 : goal.returns-then-n-ne0
-unfolding forecasts_to forecast_cells_to
-returns-then-n-ne0 c =
-    let e = code (goal.at.returns-then-n-ne0 c).After-first-n in
-    let n = ne_eqb _ _ c.if-n-ne0.true in
-    record { answer = rw (← e, n); buffer = rw (← e, n) }
+pub returns-in_err-check_forecasts_to : goal.returns-in_err-check_forecasts_to
+unfolding forecasts_code_to forecasts_to forecast_cells_to
+returns-in_err-check_forecasts_to c =
+    let e = c.in_err-check_forecasts_to.ensures in
+    record { answer = check-rejects _ tt e c.from_residual.ensures.1; buffer = check-keeps _ _ _ e }
+
+pub invariant_of-r : goal.invariant_of-r
+invariant_of-r c =
+    let q = (ready (goal.at.invariant_of-r c).In_ok-check_forecasts_to).0 in
+    record { passes = q.valid; above = q.least; below = omega (arith, q.most, c.requires) }
 
 pub fill-requires : goal.fill-requires
-fill-requires c =
-    let r = ready (goal.at.fill-requires c).Else-n-ne0 in
-    (r.0.valid, unchanged c.args.s.period, omega (arith, r.0.most, c.requires), r.1)
+fill-requires c = (unchanged c.args.s.period, (ready (goal.at.fill-requires c).In_ok-check_forecasts_to).1)
 
 pub returns : goal.returns
 unfolding forecasts_to forecast_cells_to
 returns c =
-    let r = ready (goal.at.returns c).Else-n-ne0 in
-    let z = sym (code (goal.at.returns c).After-first-n) ∙ c.if-n-ne0.false in
-    record { answer = rw z; buffer = rw (z, ← (list-unchanged c.args.s (valid _ r.0.valid) c.args.h)) c.fill.ensures }
+    let q = (goal.at.returns c).In_ok-check_forecasts_to in
+    let z = accepted q in
+    record { answer = rw z; buffer = rw (z, ← (list-unchanged c.args.s (valid _ (ready q).0.valid) c.args.h)) c.fill.ensures }

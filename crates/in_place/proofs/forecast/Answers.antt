@@ -1,127 +1,82 @@
 -- `in_place::forecast` meets its contract: the forecast is made of the numbers of the state which the slice holds.
 use Prim.Native.Nat.{ℕ}
-use mathlib.Core.Path.{◌≡◌, sym, ap, ap₂, ◌∙◌}
+use mathlib.Core.Path.{◌≡◌, ap, ap₂, ◌∙◌}
 use mathlib.Core.Bool.{Bool}
 use mathlib.Core.List.{List}
-use lib.IntN.{ℤ, ◌+ℤ◌}
-use borrow.Author.Tests.{ne_eqb}
+use lib.IntN.{ℤ, pos, ◌+ℤ◌}
 use mir.Syntax.{w64}
 use mir.ValLaws.{to_z-of_z}
+use Rattle.std.specs.Prelude.{Ok}
 use Rattle.models.specs.Models.{ties_to_even}
+use Rattle.state.specs.Rejections.{gives, Answer}
 use Rattle.state.specs.declared.State.{State}
-use Rattle.state.specs.declared.Answer.{Answer}
-use Rattle.state.specs.declared.Answer.TheVariants as AnswerOf
-use Rattle.state.proofs.Answers.{answer-rejected, answer-accepted}
+use Rattle.state.proofs.Answers.{check-ends, given-same}
 use Rattle.forecasts.specs.Forecasts.{trend_line, forecast_code, forecast_from_code, forecast_from, forecast_of}
 use Rattle.state.specs.declared.Numbers.{Numbers}
 use Rattle.forecasts.proofs.ForecastLaws.{from-code, forecast-ready}
 use Rattle.layout.specs.Bytes.{AreBytes}
 use Rattle.snapshot.specs.Snapshots.{open_code, decoded}
-use Rattle.slices.specs.Slices.{opened_in}
+use Rattle.slices.specs.Slices.{in_place_code, opened_in}
 use Rattle.slices.specs.declared.Checked.{Checked}
 use Rattle.slices.proofs.SliceLaws.{one-snapshot}
 use Rattle.in_place.specs.InPlace.{in_place_forecast_code, in_place_forecast}
-use Rattle.in_place.specs.Facts.{ahead_in, Held, Found}
-use Rattle.in_place.proofs.InPlaceSteps.{room_in, ahead_value, ahead_within, ahead-is, found, holds, not-read, is_read}
+use Rattle.in_place.specs.Facts.{ahead_in, Held}
+use Rattle.in_place.proofs.InPlaceSteps.{room_in, ahead_value, ahead_within, ahead-is, found, not-found}
 use borrow.Author.Rules.{rules}
 use Rattle.in_place.proofs.forecast.Goals as goal
 
 -- the slice, what its numbers are, and the horizon
-module _ (d : List ℕ) (b : AreBytes d) (x : Checked) (q : x ≡ opened_in d) (h : ℕ) where
-  goes_by : Found d x
-  goes_by = found d x b q
+module _ (d : List ℕ) (b : AreBytes d) (x : Checked) (q : Ok x ≡ opened_in d) (h : ℕ) where
+  opens : in_place_code d ≡ 0
+  opens = (found d b q).0
 
-  -- the lent number by the rejection of the call
-  kept : (old : ℤ) (n : ℕ) → n ≡ in_place_forecast_code d h → (n ≡ 0 → ⊥) → old ≡ in_place_forecast d h old
-  unfolding in_place_forecast
-  kept old n e k = rw (← e, ne_eqb n 0 k)
+  held : Held d x
+  held = (found d b q).1
 
-  put : (old : ℤ) → 0 ≡ in_place_forecast_code d h → forecast_of (decoded d) h ≡ in_place_forecast d h old
-  unfolding in_place_forecast
-  put old e = rw (← e)
+  open-is : open_code d ≡ 0
+  open-is = (one-snapshot d opens).0
 
-  unopened : (x.code ≡ 0 → ⊥) → x.code ≡ in_place_forecast_code d h
-  unfolding in_place_forecast_code
-  unopened n = not-read d x goes_by (forecast_code (decoded d) h) n
+  abbrev s : State
+  s = decoded d
 
-  module _ (z : x.code ≡ 0) where
-    held : Held d x
-    held = holds d x goes_by z
+  abbrev v : ℤ
+  v = ahead_value d open-is h
 
-    opens : open_code d ≡ 0
-    opens = (one-snapshot d (sym goes_by.code ∙ z)).0
+  code_is : forecast_from_code s.level s.phi s.trend v h ≡ forecast_code s h
+  code_is = from-code s held.passes v (ahead_within d open-is h) h
 
-    abbrev s : State
-    s = decoded d
+  value-is : forecast_code s h ≡ 0 → trend_line (ties_to_even s.model) s.level s.phi s.trend h +ℤ v ≡ in_place_forecast d h (pos 0)
+  unfolding forecast_of in_place_forecast_code in_place_forecast
+  value-is e = rw (opens, e, ahead-is d open-is h (forecast-ready 512 s h e).least)
 
-    abbrev v : ℤ
-    v = ahead_value d opens h
+  forecast-is : forecast_from (ties_to_even s.model) s.level s.phi s.trend v h ≡ gives (in_place_forecast_code d h) (in_place_forecast d h (pos 0))
+  unfolding forecast_from in_place_forecast_code
+  forecast-is = rw (opens, code_is) (given-same (forecast_code s h) _ _ value-is)
 
-    code_is : forecast_from_code s.level s.phi s.trend v h ≡ forecast_code s h
-    code_is = from-code s held.passes v (ahead_within d opens h) h
+  -- the numbers that the forecast is given are the state's
+  answer-is : (r : Answer) (l b' a : ℤ) → r ≡ forecast_from x.even l x.numbers.phi b' a h → l ≡ x.numbers.level → b' ≡ x.numbers.trend → a ≡ ahead_in d x.period x.index h → r ≡ gives (in_place_forecast_code d h) (in_place_forecast d h (pos 0))
+  answer-is r l b' a f el eb ea =
+      f ∙ same _ _ _ _ _ _ _ _ _ _ h held.even (el ∙ ap (λ (n : Numbers). n.level) held.numbers) (ap (λ (n : Numbers). n.phi) held.numbers) (eb ∙ ap (λ (n : Numbers). n.trend) held.numbers) (ea ∙ ap₂ (λ (m p : ℕ). ahead_in d m p h) held.period held.index)
+      ∙ forecast-is
+    where
+      same : (x x' : Bool) (l l' : ℤ) (F F' : ℕ) (b b' s s' : ℤ) (h : ℕ) → x ≡ x' → l ≡ l' → F ≡ F' → b ≡ b' → s ≡ s' → forecast_from x l F b s h ≡ forecast_from x' l' F' b' s' h
+      same x x' l l' F F' b b' s s' h ex el ef eb es = rw (ex, el, ef, eb, es)
 
-    value-is : forecast_code s h ≡ 0 → trend_line (ties_to_even s.model) s.level s.phi s.trend h +ℤ v ≡ forecast_of s h
-    unfolding forecast_of
-    value-is e = rw (ahead-is d opens h (forecast-ready 512 s h e).least)
-
-    told : (n : ℕ) → forecast_from_code s.level s.phi s.trend v h ≡ n → n ≡ in_place_forecast_code d h
-    unfolding in_place_forecast_code
-    told n e = is_read d x goes_by (forecast_code s h) z n (sym e ∙ code_is)
-
-    -- the numbers that the forecast is given are the state's
-    module _ (r : Answer) (l b' a : ℤ) (f : r ≡ forecast_from x.even l x.numbers.phi b' a h) (el : l ≡ x.numbers.level) (eb : b' ≡ x.numbers.trend) (ea : a ≡ ahead_in d x.period x.index h) where
-      forecasted : r ≡ forecast_from (ties_to_even s.model) s.level s.phi s.trend v h
-      forecasted =
-          f ∙ same _ _ _ _ _ _ _ _ _ _ h held.even (el ∙ ap (λ (n : Numbers). n.level) held.numbers) (ap (λ (n : Numbers). n.phi) held.numbers) (eb ∙ ap (λ (n : Numbers). n.trend) held.numbers) (ea ∙ ap₂ (λ (m p : ℕ). ahead_in d m p h) held.period held.index)
-        where
-          same : (x x' : Bool) (l l' : ℤ) (F F' : ℕ) (b b' s s' : ℤ) (h : ℕ) → x ≡ x' → l ≡ l' → F ≡ F' → b ≡ b' → s ≡ s' → forecast_from x l F b s h ≡ forecast_from x' l' F' b' s' h
-          same x x' l l' F F' b b' s s' h ex el ef eb es = rw (ex, el, ef, eb, es)
-
-      rejected : (k : ℕ) → r ≡ AnswerOf.Rejected k → (old : ℤ) → (k ≡ in_place_forecast_code d h) × (old ≡ in_place_forecast d h old)
-      unfolding forecast_from
-      rejected k i old =
-          let t = answer-rejected _ _ k (sym forecasted ∙ i) in
-          let e = told k t.0 in
-          (e, kept old k e (λ n. t.1 (t.0 ∙ n)))
-
-      accepted : (w : ℤ) → r ≡ AnswerOf.Accepted w → (old : ℤ) → (0 ≡ in_place_forecast_code d h) × (w ≡ in_place_forecast d h old)
-      unfolding forecast_from
-      accepted w i old =
-          let t = answer-accepted _ _ w (sym forecasted ∙ i) in
-          let e = told 0 t.0 in
-          (e, sym t.1 ∙ value-is (sym code_is ∙ t.0) ∙ put old e)
-
-pub returns-then-code-ne0 : goal.returns-then-code-ne0
-returns-then-code-ne0 c =
+pub returns-in_err-x : goal.returns-in_err-x
+unfolding in_place_forecast_code
+returns-in_err-x c =
     let d = c.args.snapshot.now in
-    let h = c.args.horizon in
-    let x = c.slice_numbers-x.result in
-    let q = c.slice_numbers-x.ensures in
-    let e = unopened d c.type_inv.snapshot x q h c.if-code-ne0.true in
-    record { code = e; number = kept d c.type_inv.snapshot x q h c.args.value.now x.code e c.if-code-ne0.true }
+    check-ends _ _ (in_place_forecast d c.args.horizon (pos 0)) (not-found d c.in_err-x.ensures) c.from_residual.ensures.1
 
 pub season_ahead-season-requires : goal.season_ahead-season-requires
 season_ahead-season-requires c =
     let d = c.args.snapshot.now in
-    let x = c.slice_numbers-x.result in
-    room_in d x (found d x c.type_inv.snapshot c.slice_numbers-x.ensures) c.if-code-ne0.false
+    room_in d _ (found d c.type_inv.snapshot c.in_ok-x.ensures).1
 
-pub returns-in-Rejected : goal.returns-in-Rejected
-returns-in-Rejected c =
-    let x = c.slice_numbers-x.result in
-    let n = x.numbers in
+pub returns : goal.returns
+returns c =
+    let n = c.in_ok-x.x.numbers in
     let el = to_z-of_z w64 n.level (search rules) in
     let eb = to_z-of_z w64 n.trend (search rules) in
     let ea = to_z-of_z w64 c.season_ahead-season.result (search rules) ∙ c.season_ahead-season.ensures in
-    let r = rejected c.args.snapshot.now c.type_inv.snapshot x c.slice_numbers-x.ensures c.args.horizon c.if-code-ne0.false _ _ _ _ c.forecast_from.ensures el eb ea c.in-Rejected.k c.in-Rejected.is c.args.value.now in
-    record { code = r.0; number = r.1 }
-
-pub returns-in-Accepted : goal.returns-in-Accepted
-returns-in-Accepted c =
-    let x = c.slice_numbers-x.result in
-    let n = x.numbers in
-    let el = to_z-of_z w64 n.level (search rules) in
-    let eb = to_z-of_z w64 n.trend (search rules) in
-    let ea = to_z-of_z w64 c.season_ahead-season.result (search rules) ∙ c.season_ahead-season.ensures in
-    let r = accepted c.args.snapshot.now c.type_inv.snapshot x c.slice_numbers-x.ensures c.args.horizon c.if-code-ne0.false _ _ _ _ c.forecast_from.ensures el eb ea c.in-Accepted.v c.in-Accepted.is c.args.value.now in
-    record { code = r.0; number = to_z-of_z w64 c.in-Accepted.v (search rules) ∙ r.1 }
+    answer-is c.args.snapshot.now c.type_inv.snapshot c.in_ok-x.x c.in_ok-x.ensures c.args.horizon _ _ _ _ c.forecast_from.ensures el eb ea

@@ -1,20 +1,23 @@
 -- `in_place::season_ahead` meets its contract.
 use Prim.Native.Nat.{ℕ, ◌+◌, ◌-◌, ◌%◌, ◌<◌}
-use mathlib.Core.Path.{◌≡◌, refl, sym}
+use mathlib.Core.Path.{◌≡◌, refl, sym, ap, ◌∙◌}
 use mathlib.Core.Bool.{Bool, true, false, ◌||◌, false≢true}
 use mathlib.Core.List.{List}
 use native.Mathlib.Nat.{mod-lt}
 use native.Mathlib.Omega.{arith}
 use lib.Dec.{eqb}
+use lib.IntN.{pos}
 use lib.ListN.{length}
 use mir.Syntax.{w64}
 use mir.ValLaws.{to_z-of_z}
 use borrow.Author.Tests.{eqb-false, le-leb}
+use Rattle.std.specs.Prelude.{Ok}
+use Rattle.std.specs.Result.{result_unwrap_or}
+use Rattle.state.specs.Rejections.{Answer}
 use Rattle.layout.specs.CommandTable.{season_length}
 use Rattle.layout.specs.Layout.{season_at, scored_in, season_in}
 use Rattle.slices.specs.Slices.{season_value}
 use Rattle.snapshot.specs.Facts.{Room}
-use Rattle.state.specs.declared.Answer.TheVariants as AnswerOf
 use borrow.Author.Rules.{rules}
 use Rattle.in_place.proofs.season_ahead.Goals as goal
 
@@ -27,25 +30,13 @@ some : (m h : ℕ) → (eqb m 0 || eqb h 0) ≡ false → 0 < m
 some m h e = omega (arith, eqb-false m 0 (neither (eqb m 0) (eqb h 0) e).0)
 
 -- the slice has the whole command, so its value is told
-told : (d : List ℕ) (m p k : ℕ) → Room (scored_in d) d m p → k < m → season_value d k ≡ AnswerOf.Accepted (season_in d k)
+told : (d : List ℕ) (m p k : ℕ) → Room (scored_in d) d m p → k < m → season_value d k ≡ Ok (season_in d k)
 unfolding season_value
 told d m p k r l = rw (le-leb (season_at (scored_in d) k + season_length) (length d) (omega arith))
 
-pub returns-in-Accepted : goal.returns-in-Accepted
-returns-in-Accepted c =
+pub returns : goal.returns
+returns c =
     let a = c.args in
     let k = (a.p + a.h - 1) % a.m in
     let t = told a.s.now a.m a.p k c.requires (mod-lt (a.p + a.h - 1) (some a.m a.h c.if-m-h.false)) in
-    let r = c.season_value.ensures in
-    let i = c.in-Accepted.is in
-    let e : c.in-Accepted.v ≡ season_in a.s.now k = cc in
-    rw (to_z-of_z w64 c.in-Accepted.v (search rules), c.if-m-h.false) e
-
-pub returns-in-Rejected : goal.returns-in-Rejected
-returns-in-Rejected c =
-    let a = c.args in
-    let k = (a.p + a.h - 1) % a.m in
-    let t = told a.s.now a.m a.p k c.requires (mod-lt (a.p + a.h - 1) (some a.m a.h c.if-m-h.false)) in
-    let r = c.season_value.ensures in
-    let i = c.in-Rejected.is in
-    cc
+    rw (to_z-of_z w64 c.unwrap_or.result (search rules), c.if-m-h.false) (c.unwrap_or.ensures ∙ ap (λ (r : Answer). result_unwrap_or r (pos 0)) (c.season_value.ensures ∙ t))

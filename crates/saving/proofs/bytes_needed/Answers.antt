@@ -1,12 +1,13 @@
 -- `saving::bytes_needed` meets its contract.
-use borrow.Author.Tests.{eq-eqb, ne_eqb}
+use Rattle.state.proofs.Answers.{check-rejects, check-passes}
+use Rattle.layout.specs.Layout.{size_of}
 use Rattle.saving.specs.Saving.{bytes_needed}
 use Rattle.saving.proofs.bytes_needed.Goals as goal
 
-pub returns-then-code-ne0 : goal.returns-then-code-ne0
+pub returns-in_err-check : goal.returns-in_err-check
 unfolding bytes_needed
-returns-then-code-ne0 c = rw (← c.check-code.ensures, ne_eqb _ _ c.if-code-ne0.true)
+returns-in_err-check c = check-rejects _ (size_of c.args.s.period) c.in_err-check.ensures c.from_residual.ensures.1
 
 pub returns : goal.returns
 unfolding bytes_needed
-returns c = rw (← c.check-code.ensures, eq-eqb _ _ c.if-code-ne0.false, c.size_of.ensures)
+returns c = rw (c.size_of.ensures, check-passes _ c.in_ok-check.ensures)

@@ -1,18 +1,17 @@
 -- `slices::slice_numbers` meets its contract.
-use mathlib.Core.Path.{sym, ◌∙◌}
-use borrow.Author.Tests.{eq-eqb, ne_eqb}
-use Rattle.slices.specs.Slices.{opened_in}
+use Rattle.state.proofs.Answers.{check-rejects, check-passes}
+use Rattle.slices.specs.Slices.{checked_in, opened_in}
 use Rattle.snapshot.proofs.Accepting.{accepted-room}
 use Rattle.slices.proofs.SliceLaws.{one-snapshot}
 use Rattle.slices.proofs.slice_numbers.Goals as goal
 
-pub returns-then-code-ne0 : goal.returns-then-code-ne0
+pub returns-in_err-check_slice : goal.returns-in_err-check_slice
 unfolding opened_in
-returns-then-code-ne0 c = rw (c.unopened.ensures, ← c.slice_code-code.ensures, ne_eqb _ _ c.if-code-ne0.true)
+returns-in_err-check_slice c = check-rejects _ (checked_in c.args.snapshot.now) c.in_err-check_slice.ensures c.from_residual.ensures.1
 
 pub checked_at-requires : goal.checked_at-requires
-checked_at-requires c = accepted-room _ (one-snapshot _ (sym c.slice_code-code.ensures ∙ c.if-code-ne0.false)).0
+checked_at-requires c = accepted-room _ (one-snapshot _ (check-passes _ c.in_ok-check_slice.ensures)).0
 
 pub returns : goal.returns
 unfolding opened_in
-returns c = rw (c.checked_at.ensures, ← c.slice_code-code.ensures, eq-eqb _ _ c.if-code-ne0.false)
+returns c = rw (c.checked_at.ensures, check-passes _ c.in_ok-check_slice.ensures)

@@ -1,18 +1,15 @@
 -- `snapshot::read` meets its contract.
-use mathlib.Core.Path.{ap}
-use borrow.Author.Tests.{eq-eqb, ne_eqb}
-use Rattle.snapshot.specs.Snapshots.{read}
-use Rattle.snapshot.specs.declared.reading.Scanned.{Scanned}
+use borrow.Author.Tests.{ne_eqb}
+use Rattle.snapshot.specs.Snapshots.{scan, read}
+use Rattle.snapshot.proofs.Stops.{ended, stopped}
 use Rattle.snapshot.proofs.read.Goals as goal
 
-pub returns-then-code-ne0 : goal.returns-then-code-ne0
+pub returns-in-Ok : goal.returns-in-Ok
 unfolding read
-returns-then-code-ne0 c =
-    let e = ap (λ (r : Scanned). r.code) c.scan-found.ensures in
-    rw (c.no_state.ensures, ← e, ne_eqb _ _ c.if-code-ne0.true)
+returns-in-Ok c = rw (c.state_at.ensures, (ended (scan c.args.stream.now) c.in-Ok.ensures).0)
 
-pub returns : goal.returns
+pub returns-in-Err : goal.returns-in-Err
 unfolding read
-returns c =
-    let e = ap (λ (r : Scanned). r.code) c.scan-found.ensures in
-    rw (c.state_at.ensures, ← e, eq-eqb _ _ c.if-code-ne0.false)
+returns-in-Err c =
+    let p = stopped (scan c.args.stream.now) c.in-Err.ensures in
+    rw (c.no_state.ensures, ne_eqb _ _ p.0, p.1)

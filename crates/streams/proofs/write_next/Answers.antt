@@ -2,12 +2,13 @@
 use Rattle.streams.proofs.StreamLaws.{written_is, bytes-are}
 use Rattle.streams.specs.declared.Written.{Written}
 use Rattle.commands.specs.declared.Performed.{Performed}
-use Rattle.lines.specs.declared.Line.{Line}
 use lib.ListN.{length}
 use mathlib.Core.Path.{ap, ◌∙◌}
 use Rattle.streams.proofs.write_next.Goals as goal
+use Rattle.std.specs.Prelude.{ℕ, Result}
+use Rattle.state.specs.declared.Rejection.{Rejection}
 
-abbrev written : Performed → Line → Written
+abbrev written : Performed → Result ℕ Rejection → Written
 written p l = record { performed = p; line = l }
 
 pub returns : goal.returns

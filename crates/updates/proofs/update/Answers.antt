@@ -1,19 +1,18 @@
-use mathlib.Core.Path.{sym, ◌∙◌}
 use mir.Facts.{to_z-of_z}
-use borrow.Author.Tests.{eq-eqb, ne_eqb}
+use Rattle.state.proofs.Answers.{call-ends, check-passes}
 use Rattle.ets.specs.Updates.{update}
 use Rattle.ets.proofs.UpdateLaws.{numbers-bounded}
 use Rattle.updates.proofs.update.Goals as goal
 
-pub returns-then-code-ne0 : goal.returns-then-code-ne0
+pub returns-in_err-check_numbers : goal.returns-in_err-check_numbers
 unfolding update
-returns-then-code-ne0 c = rw (← c.numbers_code-code.ensures, ne_eqb _ _ c.if-code-ne0.true) c.not_updated.ensures
+returns-in_err-check_numbers c = call-ends _ _ c.in_err-check_numbers.ensures c.from_residual.ensures.1
 
 pub reading_update-requires : goal.reading_update-requires
-reading_update-requires c = numbers-bounded c.args.n (sym c.numbers_code-code.ensures ∙ c.if-code-ne0.false)
+reading_update-requires c = numbers-bounded c.args.n (check-passes _ c.in_ok-check_numbers.ensures)
 
 pub returns : goal.returns
 unfolding update
 returns c =
-    let i = c in
-    rw (← i.numbers_code-code.ensures, eq-eqb _ _ i.if-code-ne0.false) (rw (to_z-of_z i.ranges.y) at c.reading_update.ensures)
+    let passes = check-passes _ c.in_ok-check_numbers.ensures in
+    rw passes (rw (to_z-of_z c.ranges.y) at c.reading_update.ensures)

@@ -1,18 +1,17 @@
-use mathlib.Core.Path.{sym, ◌∙◌}
-use borrow.Author.Tests.{eq-eqb, ne_eqb}
+use Rattle.state.proofs.Answers.{call-ends, check-passes}
 use Rattle.ets.specs.Updates.{update_missing}
 use Rattle.ets.proofs.UpdateLaws.{advance-bounded}
 use Rattle.updates.proofs.update_missing.Goals as goal
 
-pub returns-then-code-ne0 : goal.returns-then-code-ne0
+pub returns-in_err-check_advance : goal.returns-in_err-check_advance
 unfolding update_missing
-returns-then-code-ne0 c = rw (← c.advance_code-code.ensures, ne_eqb _ _ c.if-code-ne0.true) c.not_updated.ensures
+returns-in_err-check_advance c = call-ends _ _ c.in_err-check_advance.ensures c.from_residual.ensures.1
 
 pub missing_update-requires : goal.missing_update-requires
-missing_update-requires c = advance-bounded c.args.n (sym c.advance_code-code.ensures ∙ c.if-code-ne0.false)
+missing_update-requires c = advance-bounded c.args.n (check-passes _ c.in_ok-check_advance.ensures)
 
 pub returns : goal.returns
 unfolding update_missing
 returns c =
-    let i = c in
-    rw (← i.advance_code-code.ensures, eq-eqb _ _ i.if-code-ne0.false) c.missing_update.ensures
+    let passes = check-passes _ c.in_ok-check_advance.ensures in
+    rw passes c.missing_update.ensures

@@ -7,13 +7,13 @@ use Rattle.actions.proofs.copies.save_state.Goals as goal
 pub overflow_cast-count : goal.overflow_cast-count
 overflow_cast-count c = omega (arith, c.size_of-count.ensures)
 
-pub returns-in-Accepted : goal.returns-in-Accepted
-returns-in-Accepted c =
-    let r = c.save-outcome.ensures in
+pub returns-in-Ok : goal.returns-in-Ok
+returns-in-Ok c =
+    let r = c.save.ensures in
     let n = c.size_of-count.ensures ∙ sym (length-encoded c.args.s) in
-    record { answer = rw (← r.answer, c.in-Accepted.is, ← n) c.accept.ensures; bytes = r.bytes }
+    record { answer = rw (← r.answer, c.in-Ok.is, ← n) c.accept.ensures; bytes = r.bytes }
 
-pub returns-in-Rejected : goal.returns-in-Rejected
-returns-in-Rejected c =
-    let r = c.save-outcome.ensures in
-    record { answer = rw (← r.answer, c.in-Rejected.is) c.reject.ensures; bytes = r.bytes }
+pub returns-in-Err : goal.returns-in-Err
+returns-in-Err c =
+    let r = c.save.ensures in
+    record { answer = rw (← r.answer, c.in-Err.is) c.reject.ensures; bytes = r.bytes }

@@ -4,10 +4,10 @@ use Rattle.relative_errors.proofs.Finite.{accepted-is-finite}
 use Rattle.actions.proofs.looks.give_relative_variance.Goals as goal
 
 pub float_to_bits-bits : goal.float_to_bits-bits
-float_to_bits-bits c = (accepted-is-finite _ _ _ _ _ (sym c.relative_variance-found.ensures.answer ∙ c.in-Accepted.is)).no_nan
+float_to_bits-bits c = (accepted-is-finite _ _ _ _ _ (sym c.relative_variance.ensures.answer ∙ c.in-Ok.is)).no_nan
 
-pub returns-in-Accepted : goal.returns-in-Accepted
-returns-in-Accepted c = rw (← c.relative_variance-found.ensures.answer, c.in-Accepted.is) c.accept.ensures
+pub returns-in-Ok : goal.returns-in-Ok
+returns-in-Ok c = rw (← c.relative_variance.ensures.answer, c.in-Ok.is) c.accept.ensures
 
-pub returns-in-Rejected : goal.returns-in-Rejected
-returns-in-Rejected c = rw (← c.relative_variance-found.ensures.answer, c.in-Rejected.is) c.reject.ensures
+pub returns-in-Err : goal.returns-in-Err
+returns-in-Err c = rw (← c.relative_variance.ensures.answer, c.in-Err.is) c.reject.ensures

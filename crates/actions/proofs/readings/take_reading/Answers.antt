@@ -7,13 +7,13 @@ use mir.Val.{SFits}
 use mir.Syntax.{w32, w64}
 use Rattle.actions.proofs.readings.take_reading.Goals as goal
 
-pub returns-in-Accepted : goal.returns-in-Accepted
-returns-in-Accepted c =
+pub returns-in-Ok : goal.returns-in-Ok
+returns-in-Ok c =
     let k : c.step-found.result ≡ step c.args.s c.args.y = rw (to_z-of_z w32 c.args.y c.ranges.y) at c.step-found.ensures in
-    let f : SFits w64 c.in-Accepted.e = search rules in
-    rw (← k, c.in-Accepted.is) (rw (to_z-of_z w64 c.in-Accepted.e f) at c.accept.ensures)
+    let f : SFits w64 c.in-Ok.e = search rules in
+    rw (← k, c.in-Ok.is) (rw (to_z-of_z w64 c.in-Ok.e f) at c.accept.ensures)
 
-pub returns-in-Rejected : goal.returns-in-Rejected
-returns-in-Rejected c =
+pub returns-in-Err : goal.returns-in-Err
+returns-in-Err c =
     let k : c.step-found.result ≡ step c.args.s c.args.y = rw (to_z-of_z w32 c.args.y c.ranges.y) at c.step-found.ensures in
-    rw (← k, c.in-Rejected.is) c.reject.ensures
+    rw (← k, c.in-Err.is) c.reject.ensures

@@ -1,8 +1,8 @@
 -- `commands::performing::settle` meets its contract.
 use Rattle.commands.proofs.performing.settle.Goals as goal
 
-pub returns-in-Accepted : goal.returns-in-Accepted
-returns-in-Accepted c = rw c.in-Accepted.is
+pub returns-in-Ok : goal.returns-in-Ok
+returns-in-Ok c = rw c.in-Ok.is
 
-pub returns-in-Rejected : goal.returns-in-Rejected
-returns-in-Rejected c = rw c.in-Rejected.is
+pub returns-in-Err : goal.returns-in-Err
+returns-in-Err c = rw c.in-Err.is

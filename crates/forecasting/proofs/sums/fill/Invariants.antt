@@ -1,5 +1,4 @@
 -- d, line and p are those of i steps on, and the first i elements are the forecasts.
-use Prim.Native.Nat.{◌≤◌, ◌-◌}
 use mathlib.Core.Path.{◌≡◌}
 use mathlib.Core.List.{◌++◌}
 use lib.ListN.{length, drop}
@@ -12,13 +11,9 @@ use Rattle.forecasting.proofs.sums.fill.Given as goal
 
 abbrev pub invariant-loop-i : goal.invariant-loop-i
 invariant-loop-i l =
-    (l.i ≤ l.h)
-    × (l.d ≡ trend_at (ties_to_even l.s.model) l.s.phi l.s.trend l.i)
-    × (l.line ≡ trend_line (ties_to_even l.s.model) l.s.level l.s.phi l.s.trend l.i)
-    × Walking (calendar_of l.skipped l.repeated) l.s l.i l.p l.n l.at
+    (l.d ≡ trend_at (ties_to_even l.r.state.now.model) l.r.state.now.phi l.r.state.now.trend l.i)
+    × (l.line ≡ trend_line (ties_to_even l.r.state.now.model) l.r.state.now.level l.r.state.now.phi l.r.state.now.trend l.i)
+    × Walking (calendar_of l.skipped l.repeated) l.r.state.now l.i l.p l.n l.at
     × (length l.values ≡ length l.initial.values)
-    × (l.values ≡ forecast_list_by (calendar_of l.skipped l.repeated) l.s l.i ++ drop l.i l.initial.values)
-    × (l.even ≡ ties_to_even l.s.model)
-
-abbrev pub decreases-loop-i : goal.decreases-loop-i
-decreases-loop-i l = l.h - l.i
+    × (l.values ≡ forecast_list_by (calendar_of l.skipped l.repeated) l.r.state.now l.i ++ drop l.i l.initial.values)
+    × (l.even ≡ ties_to_even l.r.state.now.model)

@@ -1,12 +1,8 @@
--- `layout::table::command_length` meets its contract.
-use borrow.Author.Tests.{ne_eqb}
-use Rattle.layout.specs.CommandTable.{is_command, command_length}
+use Rattle.layout.proofs.Rows.{length-of, no-length}
 use Rattle.layout.proofs.table.command_length.Goals as goal
 
-pub returns-then-n-eq0 : goal.returns-then-n-eq0
-unfolding is_command command_length
-returns-then-n-eq0 c = rw (← c.entry_of-e.ensures.size, c.if-n-eq0.true)
+pub returns-in_err-try_from : goal.returns-in_err-try_from
+returns-in_err-try_from c = no-length _ c.in_err-try_from.ensures c.from_residual.ensures.1
 
 pub returns : goal.returns
-unfolding is_command command_length
-returns c = rw (← c.entry_of-e.ensures.size, ne_eqb _ _ c.if-n-eq0.false)
+returns c = rw (c.length.ensures, length-of c.in_ok-try_from.field-0, c.in_ok-try_from.ensures)

@@ -1,7 +1,6 @@
--- `layout::table::is_command` meets its contract.
-use Rattle.layout.specs.CommandTable.{is_command}
+use mathlib.Core.Path.{◌∙◌}
+use Rattle.layout.proofs.Rows.{is-command}
 use Rattle.layout.proofs.table.is_command.Goals as goal
 
 pub returns : goal.returns
-unfolding is_command
-returns c = rw (← c.entry_of-e.ensures.size)
+returns c = c.is_ok.ensures.value ∙ is-command _ _ c.try_from.ensures

@@ -12,11 +12,9 @@ use Rattle.saving.proofs.rewriting.rewrite_level.Goals as goal
 
 pub returns-then-d-ge-SCORE_AT : goal.returns-then-d-ge-SCORE_AT
 returns-then-d-ge-SCORE_AT c =
-    let w = c in
-    let s = w in
-    let a = s.args in
-    w.write_level.ensures
-    ∙ ap₂ (λ (l b : ℤ). sets a.d.now level_at (level_bytes l b)) (to_z-of_z s.ranges.level) (to_z-of_z s.ranges.trend)
+    let a = c.args in
+    c.write_level.ensures
+    ∙ ap₂ (λ (l b : ℤ). sets a.d.now level_at (level_bytes l b)) (to_z-of_z c.ranges.level) (to_z-of_z c.ranges.trend)
     ∙ sym (written-room a.d.now level_at (level_bytes a.level a.trend) level_length (length-level a.level a.trend) (omega arith))
 
 pub returns-else-d-ge-SCORE_AT : goal.returns-else-d-ge-SCORE_AT

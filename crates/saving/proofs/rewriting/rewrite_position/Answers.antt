@@ -10,9 +10,8 @@ use Rattle.saving.proofs.rewriting.rewrite_position.Goals as goal
 
 pub returns-then-size_of-d : goal.returns-then-size_of-d
 returns-then-size_of-d c =
-    let w = c in
-    let a = w.args in
-    w.write_position.ensures
+    let a = c.args in
+    c.write_position.ensures
     ∙ sym (written-room a.d.now (position_at true a.m) (position_bytes a.index a.count) position_length (length-position a.index a.count) (omega arith))
 
 pub returns-else-size_of-d : goal.returns-else-size_of-d

@@ -9,9 +9,8 @@ use Rattle.saving.proofs.rewriting.rewrite_score.Goals as goal
 
 pub returns-then-d : goal.returns-then-d
 returns-then-d c =
-    let w = c in
-    let a = w.args in
-    w.write_score.ensures ∙ sym (written-room a.d.now score_at (score_bytes a.s) score_length (length-score a.s) (omega arith))
+    let a = c.args in
+    c.write_score.ensures ∙ sym (written-room a.d.now score_at (score_bytes a.s) score_length (length-score a.s) (omega arith))
 
 pub returns-else-d : goal.returns-else-d
 returns-else-d c =

@@ -13,11 +13,9 @@ use Rattle.saving.proofs.rewriting.rewrite_season.Goals as goal
 
 pub returns-then-season_at-d : goal.returns-then-season_at-d
 returns-then-season_at-d c =
-    let w = c in
-    let s = w in
-    let a = s.args in
-    w.write_season.ensures
-    ∙ ap (λ (v : ℤ). sets a.d.now (season_at true a.k) (season_bytes a.k v)) (to_z-of_z s.ranges.v)
+    let a = c.args in
+    c.write_season.ensures
+    ∙ ap (λ (v : ℤ). sets a.d.now (season_at true a.k) (season_bytes a.k v)) (to_z-of_z c.ranges.v)
     ∙ sym (written-room a.d.now (season_at true a.k) (season_bytes a.k a.v) season_length (length-season a.k a.v) (omega arith))
 
 pub returns-else-season_at-d : goal.returns-else-season_at-d

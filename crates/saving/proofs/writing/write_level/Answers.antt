@@ -13,13 +13,9 @@ use Rattle.saving.proofs.writing.write_level.Goals as goal
 pub returns : goal.returns
 unfolding level_bytes
 returns c =
-    let u = c in
-    let v = u in
-    let w = v in
-    let s = w in
-    let L = signed_bytes s.args.level in
-    let T = signed_bytes s.args.trend in
-    let l = rw (to_z-of_z w64 s.args.level s.ranges.level) at v.write_i64.ensures in
-    let b = rw (to_z-of_z w64 s.args.trend s.ranges.trend) at u.write_i64-2.ensures in
-    follow s.args.d.now level_at (0x11 ∷ []) (L ++ T) w.write_byte.new.d u.write_i64-2.new.d (level_at + 1) w.write_byte.ensures
-    (follow w.write_byte.new.d (level_at + 1) L T v.write_i64.new.d u.write_i64-2.new.d (level_at + 9) l b (rw (length-to_bytes 8 (of_z w64 s.args.level)))) refl
+    let L = signed_bytes c.args.level in
+    let T = signed_bytes c.args.trend in
+    let l = rw (to_z-of_z w64 c.args.level c.ranges.level) at c.write_i64.ensures in
+    let b = rw (to_z-of_z w64 c.args.trend c.ranges.trend) at c.write_i64-2.ensures in
+    follow c.args.d.now level_at (0x11 ∷ []) (L ++ T) c.write_byte.new.d c.write_i64-2.new.d (level_at + 1) c.write_byte.ensures
+    (follow c.write_byte.new.d (level_at + 1) L T c.write_i64.new.d c.write_i64-2.new.d (level_at + 9) l b (rw (length-to_bytes 8 (of_z w64 c.args.level)))) refl

@@ -4,7 +4,6 @@ use mathlib.Core.Path.{◌≡◌, ap, ap₂, ◌∙◌}
 use native.Mathlib.Omega.{arith}
 use native.Mathlib.Nat.{add-mul, mul_assoc}
 use borrow.Author.Rules.{rules}
-use Rattle.weights.specs.declared.Variance.TheVariants as VarianceOf
 use Rattle.weights.proofs.Terms.{product_le}
 use Rattle.weighting.proofs.sums.product.Statement.{statement}
 use Rattle.weighting.proofs.sums.product.Tie as tie
@@ -33,7 +32,8 @@ add-mid c = omega (arith, mid-small c, low_small c)
 
 returns : tie.Need-returns
 returns c =
-    ap₂ VarianceOf.Accepted (omega (arith, split c, mid-small c, low_small c)) (omega (arith, split c, mid-small c, low_small c))
+    ap₂ (λ (high low : ℕ). record { high = high; low = low })
+    (omega (arith, split c, mid-small c, low_small c)) (omega (arith, split c, mid-small c, low_small c))
 
 pub product_spec : {M : Type 1} → statement M
 product_spec =

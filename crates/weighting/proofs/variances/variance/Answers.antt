@@ -1,23 +1,18 @@
 use mathlib.Core.Bool.{false}
-use mathlib.Core.Path.{sym, ◌∙◌}
-use borrow.Author.Tests.{ne_eqb}
-use Rattle.state.proofs.Passing.{valid}
+use Rattle.state.proofs.Answers.{check-passes, check-rejects}
 use Rattle.weights.specs.Weights.{variance}
 use Rattle.weights.proofs.Rejecting.{errors-ready}
 use Rattle.weighting.proofs.variances.variance.Goals as goal
 
-pub weight_of-requires : goal.weight_of-requires
-weight_of-requires c =
-    let s = c.args in
-    let r = errors-ready false s.s s.h (sym c.errors_code-n.ensures ∙ c.if-n-eq0.true) in
-    (valid _ r.valid, r.least, r.most)
-
-pub returns-then-n-eq0 : goal.returns-then-n-eq0
+pub returns-in_err-check_errors : goal.returns-in_err-check_errors
 unfolding variance
-returns-then-n-eq0 c =
-    let w = c in
-    rw (← w.errors_code-n.ensures, w.if-n-eq0.true, ← w.weight_of.ensures) c.product.ensures
+returns-in_err-check_errors c = check-rejects _ _ c.in_err-check_errors.ensures c.from_residual.ensures.1
 
-pub returns-else-n-eq0 : goal.returns-else-n-eq0
+pub invariant_of-r : goal.invariant_of-r
+invariant_of-r c =
+    let q = errors-ready false c.args.s c.args.h (check-passes _ c.in_ok-check_errors.ensures) in
+    record { passes = q.valid; above = q.least; below = q.most }
+
+pub returns : goal.returns
 unfolding variance
-returns-else-n-eq0 c = rw (← c.errors_code-n.ensures, ne_eqb _ 0 c.if-n-eq0.false)
+returns c = rw (check-passes _ c.in_ok-check_errors.ensures, ← c.weight_of.ensures, c.product.ensures)
