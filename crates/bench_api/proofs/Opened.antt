@@ -5,13 +5,13 @@ use mathlib.Core.Bool.{true≢false}
 use native.Mathlib.Omega.{arith}
 use lib.Dec.{eqb-suc-zero}
 use Rattle.std.specs.Prelude.{Result, Ok, Err, is_ok}
-use Rattle.state.specs.Rejections.{accepting, rejects, code_in, ◌then◌, IsCode, short_buffer, bad_horizon, out_of_place}
+use Rattle.state.specs.Rejections.{accepting, rejects, code_in, ◌then◌, IsCode, short_buffer}
 use Rattle.state.specs.declared.Rejection.{Rejection}
 use Rattle.state.specs.declared.State.{State}
 use Rattle.state.proofs.Answers.{numbered, code-then, code-unless}
-use Rattle.forecasts.proofs.Codes.{code-check}
-use Rattle.weights.specs.Weights.{class_one_code, errors_code}
+use Rattle.weights.specs.Weights.{class_one_code}
 use Rattle.weights.specs.Groups.{weight_groups_code}
+use Rattle.weights.proofs.Codes.{code-errors}
 
 -- its number
 pub number-of : {A : Type 0} (n : ℕ) (a : Result A Rejection) → IsCode n → code_in (accepting n a rejects) ≡ (n then code_in a)
@@ -30,6 +30,6 @@ kept (suc n) a f old k q = rw (eqb-suc-zero n)
 
 -- the rejection of the groups of a weight is a number of the papers, or 0
 pub code-groups : (s : State) (h room : ℕ) → IsCode (weight_groups_code s h room)
-unfolding weight_groups_code errors_code
+unfolding weight_groups_code
 code-groups s h room =
-    code-then (class_one_code s h) _ (code-then _ _ (code-check s) (code-then _ _ (code-unless _ out_of_place (omega arith)) (code-unless _ bad_horizon (omega arith)))) (code-unless _ short_buffer (omega arith))
+    code-then (class_one_code s h) _ (code-errors _ s h) (code-unless _ short_buffer (omega arith))

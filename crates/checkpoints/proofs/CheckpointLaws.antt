@@ -10,10 +10,9 @@ use lib.ListN.{length, length-drop, take, drop, take-append-drop, drop_of_length
 use lib.Seq.{length-sets, sets}
 use Rattle.integers.proofs.Tests.{both}
 use Rattle.state.specs.Rejections.{unless, ◌then◌, accepting, outcome, outcome_code, short_buffer, no_checkpoint, rejects, IsCode, Outcome}
-use Rattle.state.specs.declared.Rejection.{Rejection}
 use Rattle.state.specs.States.{Typed, check}
 use Rattle.state.specs.declared.State.{State}
-use Rattle.state.proofs.Answers.{outcome-code, given-rejected, check-ends, check-passes, rejected-by, code-unless}
+use Rattle.state.proofs.Answers.{outcome-code, rejected-by, code-unless}
 use Rattle.state.proofs.Passing.{bounded}
 use Rattle.state.proofs.Tests.{then-zero, unless-zero, then-first}
 use Rattle.layout.specs.Bytes.{AreBytes}
@@ -31,7 +30,8 @@ use Rattle.round_trips.proofs.RoundTrip.{read_back, decoded-typed}
 use Rattle.checkpoints.specs.Checkpoints.{slots, slot_size, checkpoints_size, slot_at, slot_in, no_checkpoints, store_code, store, stored_bytes, is_held, restore_code, nothing_kept, restore}
 use Rattle.checkpoints.specs.Promises.{StoresBack, Restored, NothingKept}
 use Rattle.checkpoints.proofs.SlotLaws.{put-at, same-slot, other-slot}
-use Rattle.std.specs.Prelude.{⊤, Ok, Err, is_ok, IsErrAnd}
+use Rattle.std.specs.Prelude.{Ok, is_ok}
+use Rattle.std.specs.Result.{result_and}
 
 -- what was let pass: the state, one of the four slots, room for all of them
 pub record Storable (s : State) (slot room : ℕ) : Type 0 where
@@ -88,6 +88,11 @@ module _ (s : State) (slot : ℕ) (d : List ℕ) (h : slot < 4) (k : 2204 ≤ le
       rw (none, append-nil ys, e, f, part, q) (same_answer, same_bytes)
 
 -- ---- a rejected one leaves the buffer
+and-then : (n k : ℕ) → result_and (outcome n) (rejects (suc k)) ≡ outcome (n then suc k)
+and-then zero k = sym (rejected-by k tt)
+and-then (suc n) k =
+    ap (λ (o : Outcome). result_and o (rejects (suc k))) (rejected-by n tt) ∙ sym (ap outcome (then-first (suc n) (suc k) (λ z. omega arith)) ∙ rejected-by n tt)
+
 module _ (s : State) (slot : ℕ) (d : List ℕ) where
   pub unstored : (store_code s slot (length d) ≡ 0 → ⊥) → d ≡ stored_bytes s slot d
   unfolding stored_bytes
@@ -101,18 +106,11 @@ module _ (s : State) (slot : ℕ) (d : List ℕ) where
   unfolding store_code
   no_room h k = rw (lt-ltb slot slots h, lt-leb checkpoints_size (length d) k)
 
-  -- the state's own rejection, and the next one
-  pub refused : (k : ℕ) {e : Rejection} {r : Outcome} → store_code s slot (length d) ≡ (check s then k) → Err e ≡ outcome (check s) → IsErrAnd r (λ y. y ≡ e) → (r ≡ store s slot (length d)) × (d ≡ stored_bytes s slot d)
+  -- the state's own rejection, else the one that follows it
+  pub refused : (k : ℕ) {p r : Outcome} → store_code s slot (length d) ≡ (check s then suc k) → p ≡ outcome (check s) → r ≡ result_and p (rejects (suc k)) → (r ≡ store s slot (length d)) × (d ≡ stored_bytes s slot d)
   unfolding store
   refused k q e h =
-      let g = given-rejected (check s) tt _ (sym e) in
-      (rw q (check-ends (check s) k tt e h), unstored (rw (q, then-first (check s) k g.1) g.1))
-
-  pub refused_next : (k : ℕ) {t : ⊤} → store_code s slot (length d) ≡ (check s then suc k) → Ok t ≡ outcome (check s) → (rejects (suc k) ≡ store s slot (length d)) × (d ≡ stored_bytes s slot d)
-  unfolding store
-  refused_next k q e =
-      let p = check-passes (check s) e in
-      (rw (q, p) (sym (rejected-by k tt)), unstored (rw (q, p) (λ z. omega arith)))
+      (h ∙ rw (e, q) (and-then (check s) k), unstored (λ z. absurd (omega (arith, (then-zero (check s) (suc k) (sym q ∙ z)).1))))
 
 -- a slot that holds something
 pub held : (slot : ℕ) (d : List ℕ) → slot < 4 → 2204 ≤ length d → open_code (slot_in d slot) ≡ 0 → is_held slot d ≡ true

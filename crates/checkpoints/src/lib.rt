@@ -34,12 +34,10 @@ pub fn store(s: State, slot: u8, checkpoints: &mut [u8]) -> Result<(), Rejection
     ensures bytes { checkpoints.new ≡ stored_bytes s slot checkpoints.old }
 {
     if SLOTS <= slot {
-        check(s)?;
-        return Err(Rejection::NoCheckpoint);
+        return check(s).and(Err(Rejection::NoCheckpoint));
     }
     if checkpoints.len() < CHECKPOINTS_SIZE {
-        check(s)?;
-        return Err(Rejection::ShortBuffer);
+        return check(s).and(Err(Rejection::ShortBuffer));
     }
     let at = slot_at(slot);
     save(s, &mut checkpoints[at..])

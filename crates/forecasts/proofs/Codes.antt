@@ -1,20 +1,23 @@
 -- The rejection of each call is a number of the papers, or 0.
 use Prim.Native.Nat.{ℕ}
+use mathlib.Core.Path.{◌≡◌, ap, ◌∙◌}
 use mathlib.Core.Bool.{Bool, ◌&&◌, ◌||◌, not}
 use native.Mathlib.Omega.{arith}
 use lib.Dec.{eqb}
 use lib.IntN.{ℤ}
-use Rattle.calendars.specs.Calendars.{Calendar}
-use Rattle.state.specs.Rejections.{unless, ◌then◌, IsCode, bad_model, bad_period, bad_parameter, bad_value, bad_position, bad_horizon, short_buffer, bad_reading, count_full, leaves_range, unusual_gains, bad_score, bad_calendar}
-use Rattle.models.specs.Models.{valid_model, period_ok, parameters_ok, usual_gains}
+use Rattle.calendars.specs.Calendars.{Calendar, no_changes}
+use Rattle.state.specs.Rejections.{unless, ◌then◌, code_in, IsCode, bad_model, bad_period, bad_parameter, bad_value, bad_position, bad_horizon, short_buffer, bad_reading, count_full, leaves_range, unusual_gains, bad_score, bad_calendar}
+use Rattle.models.specs.Models.{valid_model, period_ok, parameters_ok, usual_gains, ties_to_even}
 use Rattle.state.specs.Fixed.{is_reading, max_count}
 use Rattle.state.specs.Scores.{score_ok}
 use Rattle.state.specs.States.{parameters_code, values_ok, position_ok, check}
 use Rattle.state.specs.declared.State.{State}
-use Rattle.state.proofs.Answers.{code-then, code-unless}
-use Rattle.ets.specs.Steps.{terms_by, residual, stays_in_range, reading_code, gap_code, step_code_by, missing_code}
+use Rattle.state.proofs.Answers.{code-then, code-unless, code-of}
+use Rattle.ets.specs.Steps.{terms_by, residual, stays_in_range, reading_code, gap_code, step_code_by, step_code, missing_code}
+use Rattle.ets.specs.Updates.{numbers_of, update, update_missing}
 use Rattle.ets.specs.declared.Terms.{Terms}
 use Rattle.ets.specs.Calendars.{calendar_code, step_code_on, missing_code_on}
+use Rattle.ets.proofs.UpdateLaws.{update-is, update-missing-is}
 use Rattle.forecasts.specs.Forecasts.{forecast_code_to, forecasts_code_to}
 use Rattle.forecasts.specs.Calendars.{forecast_code_on, forecasts_code_on}
 
@@ -79,3 +82,11 @@ module _ (s : State) where
     pub code-forecasts-on : (h room : ℕ) → IsCode (forecasts_code_on k s h room)
     unfolding forecasts_code_on
     code-forecasts-on h room = code-then _ _ (code-forecasts 512 h room) (code-calendar s.period k)
+
+-- the call on the numbers of a state that passes its checks is told by the number of the step
+module _ (s : State) (ok : check s ≡ 0) where
+  pub update-code : (y : ℤ) → code_in (update (ties_to_even s.model) (numbers_of s) y) ≡ step_code s y
+  update-code y = ap code_in (update-is s ok y) ∙ code-of (step_code s y) _ (code-step s no_changes y)
+
+  pub update-missing-code : code_in (update_missing (ties_to_even s.model) (numbers_of s)) ≡ missing_code s
+  update-missing-code = ap code_in (update-missing-is s ok) ∙ code-of (missing_code s) _ (code-missing s)

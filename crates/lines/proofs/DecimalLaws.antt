@@ -7,8 +7,12 @@ use native.Mathlib.Nat.{pow-suc}
 use native.Mathlib.Omega.{arith}
 use borrow.Author.Tests.{ltb-true, ltb-false}
 use lib.Dec.{ltb}
-use Rattle.state.proofs.Answers.{code-of}
-use Rattle.lines.specs.Lines.{digits, digit_count, decimal, signed_decimal, read_from, Decimals, Cases}
+use Rattle.std.proofs.Common.{Result, Ok, Err}
+use Rattle.state.specs.Rejections.{IsCode, short_buffer}
+use Rattle.state.specs.declared.Rejection.{Rejection}
+use Rattle.state.proofs.Answers.{code-of, code-number, number-code, code-unless}
+use Rattle.replies.specs.declared.Reply.{Reply}
+use Rattle.lines.specs.Lines.{digits, digit_count, decimal, signed_decimal, read_from, line, line_code, line_length, LineCases, room_code, write_line, Decimals, Cases}
 use Rattle.lines.proofs.DigitLaws.{tenth, length-decimal}
 
 one-digit : (n : ℕ) (ds : List ℕ) (d : ℕ) → read_from n (ds ++ (d ∷ [])) ≡ read_from n ds * 10 + (d - 48)
@@ -64,5 +68,24 @@ pub decimals : Decimals
 unfolding signed_decimal decimal digits digit_count
 decimals = record { value = decimal-value; shortest = λ n h. rw (length-decimal n) (shortest 19 n h); least = refl }
 
+of-code : (code n : ℕ) → IsCode code → LineCases code n
+of-code code n l = record { number = code-of code n l; value = λ z. rw z }
+
+of-answer : (a : Result ℕ Rejection) → line (line_code a) (line_length a) ≡ a
+of-answer (Ok n) = refl
+of-answer (Err r) = number-code r 0
+
+of-call : (r : Reply) (saved : List ℕ) (room : ℕ) → line_code (write_line r saved room) ≡ room_code r saved room
+unfolding write_line
+of-call r saved room = code-of (room_code r saved room) _ (code-unless _ short_buffer (omega arith))
+
 pub cases : Cases
-cases code n l = record { number = code-of code n l; value = λ z. rw z }
+cases =
+    record {
+      codes = of-code;
+      accepted = λ n. of-code 0 n (omega arith);
+      refusals = λ r n. of-code _ n (code-number r);
+      refused = λ r n. number-code r n;
+      answers = of-answer;
+      calls = of-call;
+    }

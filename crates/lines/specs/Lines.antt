@@ -1,7 +1,7 @@
 -- Document 01, "The program's lines": the bytes of each line.
 use Rattle.std.specs.Prelude.{ℕ, zero, suc, ◌+◌, ◌-◌, ◌*◌, ◌/◌, ◌%◌, ◌^◌, ◌≤◌, ◌<◌, ◌≡◌, cond, List, [], ◌∷◌, ◌++◌, eqb, ltb, leb, ℤ, pos, negsuc, length, take, Result, Ok, Err, Option, Some, None}
 use Rattle.std.proofs.lemmas.List.Edits.{sets}
-use Rattle.state.specs.Rejections.{unless, short_buffer, gives, code_in, IsCode}
+use Rattle.state.specs.Rejections.{unless, short_buffer, gives, code_in, number, IsCode}
 use Rattle.replies.specs.Replies.{fields_of}
 use Rattle.replies.specs.declared.Reply.{Reply}
 use Rattle.replies.specs.declared.Number.{Number}
@@ -120,6 +120,11 @@ pub record Decimals : Type 0 where
   pub least : signed_decimal (negsuc 9223372036854775807)
       ≡ 45 ∷ 57 ∷ 50 ∷ 50 ∷ 51 ∷ 51 ∷ 55 ∷ 50 ∷ 48 ∷ 51 ∷ 54 ∷ 56 ∷ 53 ∷ 52 ∷ 55 ∷ 55 ∷ 53 ∷ 56 ∷ 48 ∷ 56 ∷ []
 
--- each case of a line's answer is told by its number and its value
-abbrev pub Cases : Type 0
-Cases = (code n : ℕ) → IsCode code → LineCases code n
+-- each case of a line's answer is told by its number and its value: of every number that is a refusal's, or 0, of every refusal, of every answer, and of every call
+pub record Cases : Type 0 where
+  pub codes : (code n : ℕ) → IsCode code → LineCases code n
+  pub accepted : (n : ℕ) → LineCases 0 n
+  pub refusals : (r : Rejection) (n : ℕ) → LineCases (number r) n
+  pub refused : (r : Rejection) (n : ℕ) → line (number r) n ≡ Err r
+  pub answers : (a : Result ℕ Rejection) → line (line_code a) (line_length a) ≡ a
+  pub calls : (r : Reply) (saved : List ℕ) (room : ℕ) → line_code (write_line r saved room) ≡ room_code r saved room

@@ -1,23 +1,30 @@
 -- What holds of the variance of multiplicative errors (document 02, W-205): the cases of its answer, its doubles, and its divisions.
-use Rattle.std.specs.Prelude.{ℕ, ◌≤◌, ◌<◌, ◌≡◌, Bool, true, false, not, T, ℤ, pos, negsuc, nat_abs, Float, Ok}
+use Rattle.std.specs.Prelude.{ℕ, ◌≤◌, ◌<◌, ◌≡◌, Bool, true, false, not, T, ℤ, pos, negsuc, nat_abs, Float, Result, Ok, Err}
 use Rattle.std.specs.Float.{binary64}
 use Rattle.std.specs.Float.Ieee.{mul, of_int, of_bits, is_nan}
 use Rattle.std.specs.Float.Ieee.Exact.{HasValue}
 use Rattle.std.specs.Float.Ieee.Scale.{finite}
-use Rattle.state.specs.Rejections.{IsCode}
+use Rattle.state.specs.Rejections.{number, IsCode}
 use Rattle.state.specs.States.{check}
+use Rattle.state.specs.declared.Rejection.{Rejection}
 use Rattle.state.specs.declared.State.{State}
 use Rattle.forecasts.specs.Forecasts.{max_horizon, forecast_of}
 use Rattle.weights.specs.Weights.{coefficient}
-use Rattle.relative_errors.specs.Relative.{fixed_scale, from_fixed, squared_mean, squared_coefficient, theta_in, sum_to, thetas, variance_of, relative_answer, answer_code, answer_value, relative_variance}
+use Rattle.relative_errors.specs.Relative.{fixed_scale, from_fixed, squared_mean, squared_coefficient, theta_in, sum_to, thetas, variance_of, relative_code, relative_answer, answer_code, answer_value, relative_variance}
 
 -- ---- each case of the answer is told by its number and its value
 pub record AnswerCases (n : ℕ) (v : Float) : Type 0 where
-  pub code : IsCode n → answer_code (relative_answer n v) ≡ n
+  pub code : answer_code (relative_answer n v) ≡ n
   pub value : n ≡ 0 → (old : Float) → answer_value (relative_answer n v) old ≡ v
 
-abbrev pub Cases : Type 0
-Cases = (n : ℕ) (v : Float) → AnswerCases n v
+-- of every number that is a refusal's, or 0, of every refusal, of every answer, and of every call
+pub record Cases : Type 0 where
+  pub codes : (n : ℕ) (v : Float) → IsCode n → AnswerCases n v
+  pub accepted : (v : Float) → AnswerCases 0 v
+  pub refusals : (r : Rejection) (v : Float) → AnswerCases (number r) v
+  pub refused : (r : Rejection) (v : Float) → relative_answer (number r) v ≡ Err r
+  pub answers : (a : Result Float Rejection) (old : Float) → relative_answer (answer_code a) (answer_value a old) ≡ a
+  pub calls : (s : State) (h bits room : ℕ) → answer_code (relative_variance s h bits room) ≡ relative_code s h bits room
 
 -- ---- of an accepted answer x, each θ, each S up to each j, and x itself are finite numbers: none is a NaN
 pub record Finite (s : State) (h : ℕ) (σ² x : Float) : Type 0 where

@@ -37,7 +37,7 @@ due s at first h =
     let w = leb-true (command_size first) (length s - at) (unless-zero _ 3 e.1) in
     record { byte = eqb-true (get_or s at 0) first (unless-zero _ 2 e.0); room = omega arith }
 
-is-due : {s : List ℕ} {at first : ℕ} → is_command first ≡ true → 0 < command_size first → Due s at first (command_size first) → due_code s at first ≡ 0
+pub is-due : {s : List ℕ} {at first : ℕ} → is_command first ≡ true → 0 < command_size first → Due s at first (command_size first) → due_code s at first ≡ 0
 unfolding due_code
 is-due {s} {at} {first} i p d =
     let r = d.room in

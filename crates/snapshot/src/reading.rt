@@ -5,7 +5,7 @@ ghost use Rattle.state.specs.Fixed.{in_range};
 ghost use Rattle.state.specs.Scores.{score_ok};
 ghost use Rattle.state.specs.States.{parameters_code, trend_ok};
 ghost use Rattle.layout.specs.Bytes.{unsigned_at, signed_at};
-ghost use Rattle.layout.specs.CommandTable.{is_command, model_length, level_length, score_length};
+ghost use Rattle.layout.specs.CommandTable.{is_command, model_length, level_length, score_length, season_length};
 ghost use Rattle.layout.specs.Layout.{level_at, score_at, season_at, scored_in, model_in, alpha_in, beta_in, gamma_in, phi_in, level_in, trend_in, score_in};
 ghost use Rattle.snapshot.specs.Snapshots.{stopped_at, scanned, due_code, model_code, level_code, score_code, season_code, position_code, scan_position, scan_seasons, scan};
 
@@ -141,11 +141,23 @@ struct Body<'a> {
 }
 
 impl<'a> Body<'a> {
-    fn check_season(self, k: u8) -> Result<(), Rejection>
+    // What rejects a command 12 that is due. Where the bytes reach past it (`complete`) and its byte is there, no length is left to test.
+    fn season_due(self, complete: bool, at: usize) -> Result<(), Rejection>
+        requires { complete ≡ true → at + season_length ≤ length self.bytes.now }
+        ensures { result ≡ outcome (due_code self.entry.bytes.now at 0x12) }
+    {
+        if complete && self.bytes[at] == Opcode::Season as u8 {
+            return Ok(());
+        }
+        due(self.bytes, at, Opcode::Season as u8)
+    }
+
+    fn check_season(self, complete: bool, k: u8) -> Result<(), Rejection>
+        requires { complete ≡ true → season_at self.scored k + season_length ≤ length self.bytes.now }
         ensures { result ≡ outcome (season_code self.entry.bytes.now k) }
     {
         let at = season_at(self.scored, k);
-        due(self.bytes, at, Opcode::Season as u8)?;
+        self.season_due(complete, at)?;
         unless(self.bytes[at + 1] == k, Rejection::WrongIndex)?;
         unless(in_range(value_at(self.bytes, at + 2)), Rejection::BadValue)
     }
@@ -189,8 +201,10 @@ impl<'a> Body<'a> {
     fn scan_seasons(self, m: u8) -> Result<usize, Stopped>
         ensures { result ≡ scanned (scan_seasons self.entry.bytes.now 0 m (scan_position self.entry.bytes.now m)) }
     {
+        let end = season_at(self.scored, m);
+        let complete = end <= self.bytes.len();
         for k in 0..m {
-            stopped_at(season_at(self.scored, k), self.check_season(k))?;
+            stopped_at(season_at(self.scored, k), self.check_season(complete, k))?;
         }
         self.scan_position(m)
     }

@@ -3,3 +3,4 @@ pub mod GroupLaws
 pub mod Rejecting
 pub mod Terms
 pub mod Computed
+pub mod Codes

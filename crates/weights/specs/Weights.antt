@@ -1,7 +1,7 @@
 -- Document 01, "Forecast and variance": the weights (document 000, Class 1) and the variance.
 use Rattle.std.specs.Prelude.{ℕ, zero, suc, ◌+◌, ◌-◌, ◌*◌, ◌/◌, ◌%◌, ◌≡◌, Bool, false, cond, ◌&&◌, eqb, Result, Ok, Err}
 use Rattle.state.specs.Fixed.{share_nat, word_size}
-use Rattle.state.specs.Rejections.{unless, ◌then◌, accepting, out_of_place, bad_horizon, rejects, number, IsCode}
+use Rattle.state.specs.Rejections.{unless, ◌then◌, accepting, out_of_place, bad_horizon, rejects, number}
 use Rattle.state.specs.States.{check}
 use Rattle.models.specs.Models.{trend_of, has_season, ties_to_even, errors_are}
 use Rattle.state.specs.declared.State.{State}
@@ -65,9 +65,9 @@ variance_value (Err r) = 0
 
 -- each case is told by its number and its values
 pub record AnswerCases (n v : ℕ) : Type 0 where
-  pub code_of_weight : IsCode n → weight_code (weight_answer n v) ≡ n
+  pub code_of_weight : weight_code (weight_answer n v) ≡ n
   pub value_of_weight : n ≡ 0 → (old : ℕ) → weight_value (weight_answer n v) old ≡ v
-  pub code_of_variance : IsCode n → variance_code (variance_answer n v) ≡ n
+  pub code_of_variance : variance_code (variance_answer n v) ≡ n
   pub value_of_variance : n ≡ 0 → variance_value (variance_answer n v) ≡ v
 
 -- what rejects a call for one kind of errors, or 0: the state's checks, 3 where the model has the other kind (document 02, W-205), then 11

@@ -1,7 +1,5 @@
 // What holds of weights and their groups together: the promise is the theorem that its contract names.
-ghost use Rattle.std.specs.Prelude.{ℕ};
-ghost use Rattle.weights.specs.Weights.{AnswerCases};
-ghost use Rattle.weights.specs.Promises.{GroupLaws};
+ghost use Rattle.weights.specs.Promises.{Cases, GroupLaws};
 ghost use Rattle.weights.specs.Pins.{Pins};
 
 // 2^32 plus the groups is the weight, for every horizon, season length and model.
@@ -11,7 +9,7 @@ pub fn group_laws()
 
 // Each case of the answers is told by document 01's number and its values.
 pub fn cases()
-    ensures { (n v : ℕ) → AnswerCases n v }
+    ensures { Cases }
 {}
 
 // Computed: coefficients, and the group of each square.

@@ -1,32 +1,20 @@
 -- `checkpoints::store` meets its contract: 21 and 12 come after the state's own, and `save` has the room of a slot.
 use Rattle.state.specs.Rejections.{rejection_of}
-use Rattle.checkpoints.proofs.CheckpointLaws.{no_slot, no_room, refused, refused_next, put-part}
+use Rattle.checkpoints.proofs.CheckpointLaws.{no_slot, no_room, refused, put-part}
 use Rattle.checkpoints.proofs.store.Goals as goal
-
-pub returns-in_err-check : goal.returns-in_err-check
-returns-in_err-check c =
-    let a = c.args in
-    let w = refused a.s a.slot a.checkpoints.now 21 (no_slot a.s a.slot a.checkpoints.now c.if-slot-ge-SLOTS.true) c.in_err-check.ensures c.from_residual.ensures.1 in
-    record { answer = w.0; bytes = w.1 }
 
 pub returns-then-slot-ge-SLOTS : goal.returns-then-slot-ge-SLOTS
 unfolding rejection_of
 returns-then-slot-ge-SLOTS c =
     let a = c.args in
-    let w = refused_next a.s a.slot a.checkpoints.now 20 (no_slot a.s a.slot a.checkpoints.now c.if-slot-ge-SLOTS.true) c.in_ok-check.ensures in
-    record { answer = w.0; bytes = w.1 }
-
-pub returns-in_err-check-2 : goal.returns-in_err-check-2
-returns-in_err-check-2 c =
-    let a = c.args in
-    let w = refused a.s a.slot a.checkpoints.now 12 (no_room a.s a.slot a.checkpoints.now c.if-slot-ge-SLOTS.false c.if-checkpoints-lt-CHECKPOINTS_SIZE.true) c.in_err-check-2.ensures c.from_residual-in_err-check-2.ensures.1 in
+    let w = refused a.s a.slot a.checkpoints.now 20 (no_slot a.s a.slot a.checkpoints.now c.if-slot-ge-SLOTS.true) c.check.ensures c.and.ensures in
     record { answer = w.0; bytes = w.1 }
 
 pub returns-then-checkpoints-lt-CHECKPOINTS_SIZE : goal.returns-then-checkpoints-lt-CHECKPOINTS_SIZE
 unfolding rejection_of
 returns-then-checkpoints-lt-CHECKPOINTS_SIZE c =
     let a = c.args in
-    let w = refused_next a.s a.slot a.checkpoints.now 11 (no_room a.s a.slot a.checkpoints.now c.if-slot-ge-SLOTS.false c.if-checkpoints-lt-CHECKPOINTS_SIZE.true) c.in_ok-check-2.ensures in
+    let w = refused a.s a.slot a.checkpoints.now 11 (no_room a.s a.slot a.checkpoints.now c.if-slot-ge-SLOTS.false c.if-checkpoints-lt-CHECKPOINTS_SIZE.true) c.check-then-checkpoints-lt-CHECKPOINTS_SIZE.ensures c.and-then-checkpoints-lt-CHECKPOINTS_SIZE.ensures in
     record { answer = w.0; bytes = w.1 }
 
 pub returns : goal.returns
